@@ -30,7 +30,7 @@ use Rattle.casefile_defs.specs.declared.Header.{Header}
 use Rattle.casefile_defs.proofs.Counts.{small_of, lines_small}
 use Rattle.casefile_defs.proofs.Whole.{read_whole}
 use Rattle.casefile_theorems.specs.Writer.{head_row, count_of, Form, form_in, kinds_of, file_with, file_of, words_of, bits_at, basis_at, row_cell, row_of}
-use Rattle.casefile_theorems.specs.Cases.{Numbers, Figures, Sheet, Case, Legal, longest}
+use Rattle.casefile_theorems.specs.Cases.{Numbers, Figures, Sheet, CaseTables, Legal, longest}
 use Rattle.casefile_theorems.proofs.Back.{Whole, padded, length_file, weighed_back, capped_back, reading_back}
 use Rattle.casefile_theorems.proofs.Bytes.{Fine}
 use Rattle.casefile_theorems.proofs.Places.{numbers_from, figures_from, weight_from, cap_from, line_from, sheet_from, row_in, places_from, tables_from}
@@ -68,7 +68,7 @@ basis_small l i = by (eq (get_or l i nought) nought)
     by true = (lit< tt, refl)
     by false = (lit< tt, refl)
 
-row_fine : (f : Form) (h : Header) (p : Places) → Case h p → (k : Kind) (i : ℕ) → i < count_of k h → Fine (layout_of (kinds_of f k i)).fields (words_of h p k i)
+row_fine : (f : Form) (h : Header) (p : Places) → CaseTables h p → (k : Kind) (i : ℕ) → i < count_of k h → Fine (layout_of (kinds_of f k i)).fields (words_of h p k i)
 unfolding Fine words_of
 row_fine f h p c Head i l = (lit< tt, refl, (lit< tt, refl, (lit< tt, refl, (lit< tt, refl, (lit< tt, refl, (lit< tt, refl, (lit< tt, refl, tt)))))))
 row_fine f h p c Level i l = (bits_small _ (c.ladder.double i l), refl, tt)
@@ -101,7 +101,7 @@ row_fine f h p c Line i l =
 row_fine f h p c CappedCorridor i l = absurd (omega arith)
 row_fine f h p c WeighedBus i l = absurd (omega arith)
 
-whole_of : (f : Form) (h : Header) (p : Places) → Case h p → Whole f h (words_of h p)
+whole_of : (f : Form) (h : Header) (p : Places) → CaseTables h p → Whole f h (words_of h p)
 whole_of f h p c = record { counts = c.counts; head = head_fine h c.counts; rows = λ k i l. row_fine f h p c k i l }
 
 -- ---- the file of a case is never too long
@@ -143,16 +143,16 @@ whole_short f h v w =
       spot_most Line s 35 (lines_at s h) (lines h) (λ q. omega arith),
     )
 
-pub file_short : (f : Form) (h : Header) (p : Places) → Case h p → length (file_of f h p) ≤ longest
+pub file_short : (f : Form) (h : Header) (p : Places) → CaseTables h p → length (file_of f h p) ≤ longest
 unfolding file_of
 file_short f h p c = whole_short f h (words_of h p) (whole_of f h p c)
 
 -- ---- the file of a case shows its form
-pub case_weighed : (f : Form) (h : Header) (p : Places) → Case h p → (n : ℕ) → 0 < h.buses → (form_in (file_of f h p ++ replicate n 0) h).weighed ≡ f.weighed
+pub case_weighed : (f : Form) (h : Header) (p : Places) → CaseTables h p → (n : ℕ) → 0 < h.buses → (form_in (file_of f h p ++ replicate n 0) h).weighed ≡ f.weighed
 unfolding file_of
 case_weighed f h p c n b = weighed_back f h (words_of h p) n (whole_of f h p c) b
 
-pub case_capped : (f : Form) (h : Header) (p : Places) → Case h p → (n i : ℕ) → i < h.corridors → (form_in (file_of f h p ++ replicate n 0) h).capped i ≡ f.capped i
+pub case_capped : (f : Form) (h : Header) (p : Places) → CaseTables h p → (n i : ℕ) → i < h.corridors → (form_in (file_of f h p ++ replicate n 0) h).capped i ≡ f.capped i
 unfolding file_of
 case_capped f h p c n i b = capped_back f h (words_of h p) n (whole_of f h p c) i b
 
@@ -222,7 +222,7 @@ sheet_from_lem m n l v c g =
       | no h ↦ ap (λ (x : Bool). cond x (line_from (v (line_of m n r)) j) nought) (le-ltb r (m * n) (omega arith)) ∙ sym (c.past q (omega arith))
     ])
 
-module _ (f : Form) (h : Header) (p : Places) (g : Legal f h p) (c : Case h p) where
+module _ (f : Form) (h : Header) (p : Places) (g : Legal f h p) (c : CaseTables h p) where
   weight_back : (i : ℕ) → i < h.buses → weight_from f.weighed (bits_at p.weight i) ≡ get_or p.weight i nought
   weight_back i l = by f.weighed refl
     where

@@ -26,7 +26,7 @@ use Rattle.casefile_defs.specs.declared.Kind.TheVariants.{Level, Bus, Generator,
 use Rattle.casefile_defs.specs.declared.Header.{Header}
 use Rattle.casefile_defs.proofs.Counts.{small_of, lines_small}
 use Rattle.casefile_theorems.specs.Writer.{record_bytes, table_bytes, Form, kinds_of, file_with, file_of, words_of, row_cell, row_of, nan_pattern, tidy, tidied}
-use Rattle.casefile_theorems.specs.Cases.{Numbers, Figures, Sheet, Case, Legal}
+use Rattle.casefile_theorems.specs.Cases.{Numbers, Figures, Sheet, CaseTables, Legal}
 use Rattle.casefile_theorems.proofs.Back.{Whole}
 use Rattle.casefile_theorems.proofs.Bytes.{Fine, fields_same}
 use Rattle.casefile_theorems.proofs.Places.{numbers_from, figures_from, weight_from, cap_from, line_from, sheet_from, row_in, places_from}
@@ -40,11 +40,11 @@ tables_alike ks (suc n) u v e =
     ∙ ap (λ (l : List ℕ). table_bytes ks n v ++ ((layout_of (ks n)).first ∷ (layout_of (ks n)).second ∷ l)) (fields_same (layout_of (ks n)).fields (u n) (v n) (λ j b. e n j (omega arith) b))
 
 -- u and v agree on the records of a table
-abbrev pub Alike : Form → (Kind → ℕ → ℕ → ℕ) → (Kind → ℕ → ℕ → ℕ) → Kind → ℕ → Type 0
-Alike f u v k n = (i j : ℕ) → i < n → j < length (layout_of (kinds_of f k i)).fields → u k i j ≡ v k i j
+abbrev pub SameWords : Form → (Kind → ℕ → ℕ → ℕ) → (Kind → ℕ → ℕ → ℕ) → Kind → ℕ → Type 0
+SameWords f u v k n = (i j : ℕ) → i < n → j < length (layout_of (kinds_of f k i)).fields → u k i j ≡ v k i j
 
-pub files_alike : (f : Form) (h : Header) (u v : Kind → ℕ → ℕ → ℕ) → Alike f u v Level (levels h) → Alike f u v Bus h.buses → Alike f u v Generator h.generators
-    → Alike f u v Corridor h.corridors → Alike f u v Line (lines h) → file_with f h u ≡ file_with f h v
+pub files_alike : (f : Form) (h : Header) (u v : Kind → ℕ → ℕ → ℕ) → SameWords f u v Level (levels h) → SameWords f u v Bus h.buses → SameWords f u v Generator h.generators
+    → SameWords f u v Corridor h.corridors → SameWords f u v Line (lines h) → file_with f h u ≡ file_with f h v
 unfolding file_with
 files_alike f h u v e₁ e₂ e₃ e₄ e₅ =
     let t₁ = tables_alike (kinds_of f Level) (levels h) (u Level) (v Level) e₁ in
@@ -170,7 +170,7 @@ module _ (f : Form) (h : Header) (v : Kind → ℕ → ℕ → ℕ) (g : Whole f
   corridor_of : (i : ℕ) → i < h.corridors → Fields (f.capped i) (v Corridor i)
   corridor_of i l = corridor_fine (f.capped i) (v Corridor i) (g.rows Corridor i l)
 
-  pub case_from : Case h (places_from f h v)
+  pub case_from : CaseTables h (places_from f h v)
   unfolding places_from Fine
   case_from = record {
     counts = g.counts;
@@ -208,7 +208,7 @@ module _ (f : Form) (h : Header) (v : Kind → ℕ → ℕ → ℕ) (g : Whole f
   figure_words : (n count : ℕ) (w : ℕ → ℕ) (i : ℕ) → i < count → count ≤ n → w i < 2 ^ 64 → to_bits binary64 (get_or (figures_from n count (λ m. of_bits binary64 (w m))) i nought) ≡ tidy figure (w i)
   figure_words n count w i l m b = ap (λ (x : Float). to_bits binary64 x) (figure_cell n count i (λ k. of_bits binary64 (w k)) l m) ∙ bits_tidy (w i) b
 
-  level_words_lem : Alike f (words_of h (places_from f h v)) (tidied f v) Level (levels h)
+  level_words_lem : SameWords f (words_of h (places_from f h v)) (tidied f v) Level (levels h)
   unfolding words_of places_from tidied tidy Fine
   level_words_lem i zero l m = figure_words most_levels (levels h) (λ k. v Level k 0) i l small.levels (g.rows Level i l).0
   level_words_lem i (suc j) l m = absurd (omega arith)
@@ -236,11 +236,11 @@ module _ (f : Form) (h : Header) (v : Kind → ℕ → ℕ → ℕ) (g : Whole f
       ∙ bits_tidy (v Bus i weight_field) (subst (λ (b : Bool). cond b (v Bus i weight_field) 0 < 256 ^ 8) e (bus_of_lem i l).weight)
   bus_word i l true e (suc (suc (suc j))) m = absurd (omega arith)
 
-  bus_words_lem : Alike f (words_of h (places_from f h v)) (tidied f v) Bus h.buses
+  bus_words_lem : SameWords f (words_of h (places_from f h v)) (tidied f v) Bus h.buses
   unfolding tidied
   bus_words_lem i j l m = bus_word i l f.weighed refl j m
 
-  generator_words_lem : Alike f (words_of h (places_from f h v)) (tidied f v) Generator h.generators
+  generator_words_lem : SameWords f (words_of h (places_from f h v)) (tidied f v) Generator h.generators
   unfolding words_of places_from tidied tidy Fine
   generator_words_lem i zero l m = number_cell most_generators h.generators i (λ k. v Generator k 0) l small.generators
   generator_words_lem i (suc zero) l m = number_cell most_generators h.generators i (λ k. v Generator k 1) l small.generators
@@ -273,7 +273,7 @@ module _ (f : Form) (h : Header) (v : Kind → ℕ → ℕ → ℕ) (g : Whole f
       number_cell most_corridors h.corridors i (λ k. cap_from (f.capped k) (v Corridor k cap_field)) l small.corridors ∙ ap (λ (b : Bool). cap_from b (v Corridor i cap_field)) e
   corridor_word i l true e (suc (suc (suc (suc (suc (suc j)))))) m = absurd (omega arith)
 
-  corridor_words_lem : Alike f (words_of h (places_from f h v)) (tidied f v) Corridor h.corridors
+  corridor_words_lem : SameWords f (words_of h (places_from f h v)) (tidied f v) Corridor h.corridors
   unfolding tidied
   corridor_words_lem i j l m = corridor_word i l (f.capped i) refl j m
 
@@ -289,7 +289,7 @@ module _ (f : Form) (h : Header) (v : Kind → ℕ → ℕ → ℕ) (g : Whole f
       ap (λ (x : Float). to_bits binary64 x) (line_cell i j l (omega arith) ∙ ap (λ (x : Bool). cond x (of_bits binary64 (v Line i j)) (basis_of (v Line i basis_field))) (lt-ltb j basis_field m))
       ∙ bits_tidy (v Line i j) b
 
-  line_words_lem : Alike f (words_of h (places_from f h v)) (tidied f v) Line (lines h)
+  line_words_lem : SameWords f (words_of h (places_from f h v)) (tidied f v) Line (lines h)
   unfolding words_of places_from tidied tidy Fine
   line_words_lem i zero l m = line_figure_lem i 0 l (lit< tt) (g.rows Line i l).0
   line_words_lem i (suc zero) l m = line_figure_lem i 1 l (lit< tt) (g.rows Line i l).2.0

@@ -298,13 +298,13 @@ back_and_forward s out out' t b l e =
     (forward_of _ out' _ h l (other_read true s h b g false Plain (λ c. refl)) (again true s h b g false))
 
 -- ---- both forms are read alike: with one header, and the same in every place of every table
-pub record Alike (s t : List ℕ) : Type 0 where
+pub record SameFile (s t : List ℕ) : Type 0 where
   pub header : Header
   pub first : reading_of s ≡ Ok header
   pub second : reading_of t ≡ Ok header
   pub tables : tables_of t header ≡ tables_of s header
 
-alike : (w u : Bool) (s t : List ℕ) (h : Header) (b : Bytes s) (g : Ones w s h) → t ≡ other w s h b g u → Alike s t
+alike : (w u : Bool) (s t : List ℕ) (h : Header) (b : Bytes s) (g : Ones w s h) → t ≡ other w s h b g u → SameFile s t
 alike w u s t h b g e = record {
   header = h;
   first = ap (λ (x : List ℕ). reading_of x) (as_written w s h b g) ∙ ap (λ (r : CaseRead). r.reading) (reading_back (form_in s h) h (words_in s h) (rest_of s h) (whole w s h b g) (subst (λ (x : List ℕ). length x ≤ most_bytes) (as_written w s h b g) g.file.short));
@@ -312,13 +312,13 @@ alike w u s t h b g e = record {
   tables = ap (λ (x : List ℕ). tables_of x h) e ∙ same_tables w s h b g u;
 }
 
-pub forward_alike : (s out t : List ℕ) → Bytes s → move_forward s out ≡ moved_as no_refusal t → Alike s t
+pub forward_alike : (s out t : List ℕ) → Bytes s → move_forward s out ≡ moved_as no_refusal t → SameFile s t
 forward_alike s out t b e =
     let a = forward_answered s out t e in
     let g = plain_ones s a.header a.read in
     alike false true s t a.header b g (a.out ∙ moved false s a.header b g true)
 
-pub back_alike : (s out t : List ℕ) → Bytes s → move_back s out ≡ moved_as no_refusal t → Alike s t
+pub back_alike : (s out t : List ℕ) → Bytes s → move_back s out ≡ moved_as no_refusal t → SameFile s t
 back_alike s out t b e =
     let a = back_answered s out t e in
     let g = weighed_ones s a.header a.read a.ones in

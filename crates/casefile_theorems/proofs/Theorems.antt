@@ -23,7 +23,7 @@ use Rattle.casefile_defs.specs.declared.Header.{Header}
 use Rattle.casefile_defs.proofs.Accepted.{accepted}
 use Rattle.casefile_defs.proofs.Callers.{answered_case}
 use Rattle.casefile_theorems.specs.Writer.{count_of, Form, form_in, kinds_of, file_with, file_of, caps_only, tidy, tidied}
-use Rattle.casefile_theorems.specs.Cases.{Case, Legal, blank}
+use Rattle.casefile_theorems.specs.Cases.{CaseTables, Legal, blank}
 use Rattle.casefile_theorems.proofs.Bytes.{Bytes}
 use Rattle.casefile_theorems.proofs.CaseBack.{file_short, case_weighed, case_capped, case_read_lem}
 use Rattle.casefile_theorems.proofs.CaseForth.{files_alike, case_from, legal_from, file_from}
@@ -33,12 +33,12 @@ use Rattle.casefile_theorems.proofs.Refused.{refused_blank}
 use Rattle.std.specs.Prelude.{Err, Ok, Result}
 
 -- ---- reading the file of a case, and then so many zeros as keep it within a file's length: the case, and the words and bytes of the zeros looked at
-pub case_padded : (f : Form) (h : Header) (p q : Places) (n : ℕ) → Legal f h p → Case h p → sizes_ok q ≡ true → length (file_of f h p ++ replicate n 0) ≤ most_bytes
+pub case_padded : (f : Form) (h : Header) (p q : Places) (n : ℕ) → Legal f h p → CaseTables h p → sizes_ok q ≡ true → length (file_of f h p ++ replicate n 0) ≤ most_bytes
     → read_case (file_of f h p ++ replicate n 0) q ≡ outcome (case_read (Ok h) (looks_for n n)) p
 case_padded f h p q n g c z l = case_read_lem f h p g c n q z l
 
 -- without zeros every case's file is short enough (file_short), and nothing is looked at
-pub case_back : (f : Form) (h : Header) (p q : Places) → Legal f h p → Case h p → sizes_ok q ≡ true → read_case (file_of f h p) q ≡ outcome (case_read (Ok h) 0) p
+pub case_back : (f : Form) (h : Header) (p q : Places) → Legal f h p → CaseTables h p → sizes_ok q ≡ true → read_case (file_of f h p) q ≡ outcome (case_read (Ok h) 0) p
 unfolding looks_for
 case_back f h p q g c z =
     subst (λ (s : List ℕ). read_case s q ≡ outcome (case_read (Ok h) 0) p) (append-nil (file_of f h p))
@@ -61,13 +61,13 @@ pub record Written (s : List ℕ) (h : Header) (p : Places) : Type 0 where
   pub answer : file_of (form_in s h) h p ≡ file_with (form_in s h) h (tidied (form_in s h) words)
 
 pub case_forth : (s : List ℕ) (h : Header) (n : ℕ) (p q : Places) → Bytes s → outcome (case_read (Ok h) n) p ≡ read_case s q
-    → Case h p × Legal (form_in s h) h p × Written s h p
+    → CaseTables h p × Legal (form_in s h) h p × Written s h p
 case_forth s h n p q b e =
     let a = answered_case s q p {r = case_read (Ok h) n} e refl in
     let c = accepted s h a.reading in
     let w = whole_in s h b c in
     let t : p ≡ places_from (form_in s h) h (words_in s h) = a.places ∙ tables_in s h b c in (
-      subst (λ (x : Places). Case h x) (sym t) (case_from (form_in s h) h (words_in s h) w),
+      subst (λ (x : Places). CaseTables h x) (sym t) (case_from (form_in s h) h (words_in s h) w),
       subst (λ (x : Places). Legal (form_in s h) h x) (sym t) (legal_from (form_in s h) h (words_in s h) w),
       record {
         words = words_in s h;
@@ -100,7 +100,7 @@ plain_forth s h p w g =
     (files_alike f h w.words (tidied f w.words) (same Level) (same Bus) (same Generator) (same Corridor) (same Line) ∙ sym w.answer)
 
 -- ---- no two cases share a file, and no two forms of one, whatever zeros follow
-case_sizes : (h : Header) (p : Places) → Case h p → sizes_ok p ≡ true
+case_sizes : (h : Header) (p : Places) → CaseTables h p → sizes_ok p ≡ true
 unfolding sizes_ok
 case_sizes h p c =
     simp (
@@ -126,7 +126,7 @@ case_sizes h p c =
 read_same : {h h' : Header} {n n' : ℕ} {p p' : Places} → outcome (case_read (Ok h) n) p ≡ outcome (case_read (Ok h') n') p' → (h ≡ h') × (p ≡ p')
 read_same e = (cc (ap (λ (o : Outcome). o.reply) e), ap (λ (o : Outcome). o.places) e)
 
-pub cases_apart : (f f' : Form) (h h' : Header) (p p' : Places) (n n' : ℕ) → Legal f h p → Legal f' h' p' → Case h p → Case h' p'
+pub cases_apart : (f f' : Form) (h h' : Header) (p p' : Places) (n n' : ℕ) → Legal f h p → Legal f' h' p' → CaseTables h p → CaseTables h' p'
     → length (file_of f h p ++ replicate n 0) ≤ most_bytes → file_of f h p ++ replicate n 0 ≡ file_of f' h' p' ++ replicate n' 0
     → (h ≡ h') × (p ≡ p') × (0 < h.buses → f.weighed ≡ f'.weighed) × ((i : ℕ) → i < h.corridors → f.capped i ≡ f'.capped i)
 cases_apart f f' h h' p p' n n' g g' c c' l e =

@@ -29,7 +29,7 @@ pub record Sheet (count : ℕ) (l : List Float) : Type 0 where
   pub basis : (i : ℕ) → i < count → basis_of (basis_at l (row_cell i basis_field)) ≡ get_or l (row_cell i basis_field) nought
   pub past : (q : ℕ) → row_cell count 0 ≤ q → get_or l q nought ≡ nought
 
-pub record Case (h : Header) (p : Places) : Type 0 where
+pub record CaseTables (h : Header) (p : Places) : Type 0 where
   pub counts : counts_ok h ≡ true
   pub ladder : Figures most_levels (levels h) p.ladder
   pub tier : Numbers u8 most_buses h.buses p.tier

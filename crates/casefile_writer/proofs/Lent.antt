@@ -15,7 +15,7 @@ use Rattle.casefile_defs.specs.declared.Kind.TheVariants.{Level, Bus, Generator,
 use Rattle.casefile_defs.proofs.Counts.{lines_small}
 use Rattle.casefile_defs.proofs.Whole.{sizes}
 use Rattle.casefile_theorems.specs.Writer.{file_with, file_of, caps_only, words_of, row_cell, row_of}
-use Rattle.casefile_theorems.proofs.CaseForth.{Alike, files_alike}
+use Rattle.casefile_theorems.proofs.CaseForth.{SameWords, files_alike}
 use Rattle.casefile_theorems.proofs.Places.{row_in}
 use Rattle.casefile_writer.specs.Files.{file_in}
 use Rattle.casefile_writer.specs.Words.{level_row, bus_row, generator_row, corridor_row, line_row, weighs, words_in}
@@ -26,11 +26,11 @@ within (x ∷ l) zero h = refl
 within (x ∷ l) (suc i) h = within l i (omega arith)
 
 module _ (h : Header) (p : Places) (s : Small h) (e : sizes_ok p ≡ true) where
-  level_alike : Alike (caps_only (weighs p.weight h.buses) p) (words_in h p) (words_of h p) Level (levels h)
+  level_alike : SameWords (caps_only (weighs p.weight h.buses) p) (words_in h p) (words_of h p) Level (levels h)
   unfolding words_in words_of
   level_alike i j b c = ap (λ (x : Float). level_row x j) (within p.ladder i (omega (arith, s.levels, (sizes p e).ladder)))
 
-  bus_alike : Alike (caps_only (weighs p.weight h.buses) p) (words_in h p) (words_of h p) Bus h.buses
+  bus_alike : SameWords (caps_only (weighs p.weight h.buses) p) (words_in h p) (words_of h p) Bus h.buses
   unfolding words_in words_of
   bus_alike i j b c =
       let n = s.buses in
@@ -38,7 +38,7 @@ module _ (h : Header) (p : Places) (s : Small h) (e : sizes_ok p ≡ true) where
       ap (λ (x : Float). bus_row (get_or p.tier i 0) x (at p.weight i) j) (within p.reading i (omega (arith, z.reading)))
       ∙ ap (λ (x : Float). bus_row (get_or p.tier i 0) (get_or p.reading i nought) x j) (within p.weight i (omega (arith, z.weight)))
 
-  generator_alike : Alike (caps_only (weighs p.weight h.buses) p) (words_in h p) (words_of h p) Generator h.generators
+  generator_alike : SameWords (caps_only (weighs p.weight h.buses) p) (words_in h p) (words_of h p) Generator h.generators
   unfolding words_in words_of
   generator_alike i j b c =
       let g = s.generators in
@@ -48,7 +48,7 @@ module _ (h : Header) (p : Places) (s : Small h) (e : sizes_ok p ≡ true) where
       ∙ ap (λ (x : Float). generator_row (get_or p.bus i 0) (get_or p.slack i 0) (get_or p.pmin i nought) (get_or p.pmax i nought) x (at p.c2 i) j) (within p.c1 i (omega (arith, z.c1)))
       ∙ ap (λ (x : Float). generator_row (get_or p.bus i 0) (get_or p.slack i 0) (get_or p.pmin i nought) (get_or p.pmax i nought) (get_or p.c1 i nought) x j) (within p.c2 i (omega (arith, z.c2)))
 
-  corridor_alike : Alike (caps_only (weighs p.weight h.buses) p) (words_in h p) (words_of h p) Corridor h.corridors
+  corridor_alike : SameWords (caps_only (weighs p.weight h.buses) p) (words_in h p) (words_of h p) Corridor h.corridors
   unfolding words_in words_of
   corridor_alike i j b c =
       let m = s.corridors in
@@ -65,7 +65,7 @@ module _ (h : Header) (p : Places) (s : Small h) (e : sizes_ok p ≡ true) where
       ap (at p.sheet) (let z : place_in i + j ≡ row_cell (row_of h i) j = omega arith in z)
       ∙ within p.sheet (row_cell (row_of h i) j) (omega (arith, row_in h.corridors (levels h) i b, lines_small h s, (sizes p e).sheet))
 
-  line_alike : Alike (caps_only (weighs p.weight h.buses) p) (words_in h p) (words_of h p) Line (lines h)
+  line_alike : SameWords (caps_only (weighs p.weight h.buses) p) (words_in h p) (words_of h p) Line (lines h)
   unfolding words_in words_of
   line_alike i j b c =
       let q = place_in i in

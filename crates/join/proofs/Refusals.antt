@@ -81,7 +81,7 @@ module _ (fits : Bool) (c : Case) (t : ℕ) (d : Case) (u : ℕ) where
   unfolding check_of
   refused_is f e = fault_is (cond fits (join_fault c t d u) (some Length)) f e
 
-  pub record Joinable : Type 0 where
+  pub record CallJoinable : Type 0 where
     pub sized : fits ≡ true
     pub free : join_fault c t d u ≡ none
     pub first : case_fault c t ≡ none
@@ -89,7 +89,7 @@ module _ (fits : Bool) (c : Case) (t : ℕ) (d : Case) (u : ℕ) where
     pub sums : sums_ok c t d u ≡ true
     pub same : alike c d ≡ true
 
-  pub joinable : no_refusal ≡ check_of fits c t d u → Joinable
+  pub joinable : no_refusal ≡ check_of fits c t d u → CallJoinable
   unfolding check_of
   joinable e =
       let p = none_is fits (join_fault c t d u) e in
@@ -103,7 +103,7 @@ pub record Raised (by : ℕ) (x y z : List ℕ) : Type 0 where
   pub b : Raises by z
 
 module _ (fits : Bool) (h : Header) (p : Places) (k : Header) (q : Places)
-    (j : Joinable fits (case_as h p) h.target (case_as k q) k.target) where
+    (j : CallJoinable fits (case_as h p) h.target (case_as k q) k.target) where
   pub summed : Summed h k
   unfolding sums_ok
   summed =
@@ -142,7 +142,7 @@ module _ (fits : Bool) (h : Header) (p : Places) (k : Header) (q : Places)
 
 -- what passed the check
 pub passed : (fits b : Bool) (h : Header) (p : Places) (k : Header) (q : Places) (a : Result (Unit {0}) Refusal) → a ≡ no_refusal
-    → a ≡ check_of b (case_as h p) h.target (case_as k q) k.target → b ≡ fits → Joinable fits (case_as h p) h.target (case_as k q) k.target
+    → a ≡ check_of b (case_as h p) h.target (case_as k q) k.target → b ≡ fits → CallJoinable fits (case_as h p) h.target (case_as k q) k.target
 passed fits b h p k q a e g z = joinable _ _ _ _ _ (sym e ∙ g ∙ ap (λ (x : Bool). check_of x (case_as h p) h.target (case_as k q) k.target) z)
 
 -- 24, the headers and the ladders each tested for themselves

@@ -20,7 +20,7 @@ use Rattle.case_defs.specs.Cases.{case_as}
 use Rattle.join_defs.specs.Joining.{header_of, laid_out, Outcome, outcome, joined_by, join_cases}
 use Rattle.join_defs.proofs.Tables.{sheet_are, filled_tables}
 use Rattle.join.specs.Joins.{headers_of, check_of}
-use Rattle.join.proofs.Refusals.{Joinable, refused_is}
+use Rattle.join.proofs.Refusals.{CallJoinable, refused_is}
 use Rattle.std.specs.Prelude.{Err, Ok, Result}
 
 pub places_same : {ladder ladder' : List Float} {tier tier' : List ℕ} {reading reading' : List Float} {weight weight' : List Float} {bus bus' : List ℕ}
@@ -98,7 +98,7 @@ module _ (h : Header) (p : Places) (k : Header) (q : Places) (out : Places) wher
   unfolding joined_case
   header_is = refl
 
-  pub joined_whole : (g : Header) (r : Places) → Joinable (sizes_ok out) first h.target second k.target → g ≡ headers_of h k → r ≡ laid_out (joined_case first second)
+  pub joined_whole : (g : Header) (r : Places) → CallJoinable (sizes_ok out) first h.target second k.target → g ≡ headers_of h k → r ≡ laid_out (joined_case first second)
       → outcome (Ok g) r ≡ join_cases h p k q out
   unfolding join_cases joined_by
   joined_whole g r j e f =

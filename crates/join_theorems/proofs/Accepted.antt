@@ -25,10 +25,10 @@ use Rattle.join_defs.specs.Districts.{moved, joined_case, sums_ok, join_fault}
 use Rattle.join_defs.proofs.Faults.{Joinable, joinable}
 use Rattle.join_defs.proofs.Levels.{levels_same}
 use Rattle.join_theorems.proofs.Lists.{eqb_moved}
-use Rattle.join_theorems.proofs.Within.{Within, first_within, second_within}
+use Rattle.join_theorems.proofs.Within.{LiesIn, first_within, second_within}
 
 -- ---- a row within, as it was
-module _ (c j : Case) (b o m : ℕ) (w : Within c j b o m) where
+module _ (c j : Case) (b o m : ℕ) (w : LiesIn c j b o m) where
   bus_within : (i : ℕ) → i < c.buses → bus_ok j (b + i) ≡ bus_ok c i
   unfolding bus_ok
   bus_within i h =
@@ -89,10 +89,10 @@ module _ (c d : Case) (t u : ℕ) (s : Joinable c d t u) where
   D : Accepted d u
   D = accepted d u s.second
 
-  low : Within c joined 0 0 0
+  low : LiesIn c joined 0 0 0
   low = first_within c d t u C D s.same
 
-  high : Within d joined c.buses c.generators c.corridors
+  high : LiesIn d joined c.buses c.generators c.corridors
   high = second_within c d t u C D s.same
 
   lengths : lengths_ok joined ≡ true

@@ -22,7 +22,7 @@ use Rattle.plan_defs.specs.Dispatch.{units_at, demand_of, scatter, served_if, se
 use Rattle.plan_defs.proofs.Lists.{All, pass_below}
 use Rattle.join_defs.specs.Districts.{moved}
 use Rattle.join_theorems.proofs.Lists.{eqb_moved, passing_within, each_moved, map_moved, scatter_middle, length_scatter}
-use Rattle.join_theorems.proofs.Within.{Within}
+use Rattle.join_theorems.proofs.Within.{LiesIn}
 
 -- no leader of the district leads a bus outside it, and none outside one of its own; e buses and f generators follow
 pub record Closed (c j : Case) (led wide : List ℕ) (b o e f : ℕ) : Type 0 where
@@ -40,7 +40,7 @@ pub record Closed (c j : Case) (led wide : List ℕ) (b o e f : ℕ) : Type 0 wh
 pub leads_is : (c j : Case) (led wide : List ℕ) (b o e f : ℕ) → Closed c j led wide b o e f → (i : ℕ) → i < c.buses → leads wide (b + i) ≡ leads led i
 leads_is c j led wide b o e f z i h = ap (λ (x : ℕ). eqb x (b + i)) (z.leader i h) ∙ eqb_moved b (get_or led i 0) i
 
-module _ (c j : Case) (led wide : List ℕ) (b o m e f : ℕ) (w : Within c j b o m) (z : Closed c j led wide b o e f) (root : ℕ) (inside : root < c.buses) where
+module _ (c j : Case) (led wide : List ℕ) (b o m e f : ℕ) (w : LiesIn c j b o m) (z : Closed c j led wide b o e f) (root : ℕ) (inside : root < c.buses) where
   -- ---- who belongs to a component
   leader_is : (i : ℕ) → i < c.buses → within wide (b + root) (b + i) ≡ within led root i
   leader_is i h = ap (λ (x : ℕ). eqb x (b + root)) (z.leader i h) ∙ eqb_moved b (get_or led i 0) root

@@ -22,7 +22,7 @@ use Rattle.join_defs.specs.Districts.{moved, joined_row, joined_case, alike}
 use Rattle.join_defs.proofs.Levels.{same_requested, levels_same}
 
 -- c within j: its buses from b on, its generators from o on, its corridors from m on
-pub record Within (c j : Case) (b o m : ℕ) : Type 0 where
+pub record LiesIn (c j : Case) (b o m : ℕ) : Type 0 where
   pub tops : tops_up j.mode ≡ tops_up c.mode
   pub requested : j.requested ≡ c.requested
   pub same_levels : levels j ≡ levels c
@@ -92,7 +92,7 @@ module _ (c d : Case) (t u : ℕ) (C : Accepted c t) (D : Accepted d u) (same : 
       ∙ ap (λ (i : ℕ). d.row i l) (let z : c.corridors + k - c.corridors ≡ k = omega arith in z)
 
   -- ---- both are within
-  pub first_within : Within c joined 0 0 0
+  pub first_within : LiesIn c joined 0 0 0
   unfolding joined_case
   first_within =
       record {
@@ -119,7 +119,7 @@ module _ (c d : Case) (t u : ℕ) (C : Accepted c t) (D : Accepted d u) (same : 
         row = first_row;
       }
 
-  pub second_within : Within d joined c.buses c.generators c.corridors
+  pub second_within : LiesIn d joined c.buses c.generators c.corridors
   unfolding joined_case
   second_within =
       record {

@@ -1,5 +1,5 @@
 -- What is true of the leaders of sound corridors: each leads itself, and two buses have one leader exactly where a chain of corridors joins them.
--- The invariant over the corridors, `Held`, is all of it for the corridors joined so far; a turn renames one leader to another.
+-- The invariant over the corridors, `JoinedSoFar`, is all of it for the corridors joined so far; a turn renames one leader to another.
 use Prim.Native.Nat.{ℕ, suc, ◌<◌}
 use mathlib.Core.List.{List}
 use mathlib.Core.Path.{◌≡◌, refl, sym, ap, ◌∙◌, subst}
@@ -61,7 +61,7 @@ chain_then p here = p
 chain_then p (forth c h q) = forth c h (chain_then p q)
 chain_then p (back c h q) = back c h (chain_then p q)
 
-record Held (n : ℕ) (a b : List ℕ) (k : ℕ) (l : List ℕ) : Type 0 where
+record JoinedSoFar (n : ℕ) (a b : List ℕ) (k : ℕ) (l : List ℕ) : Type 0 where
   size : length l ≡ n
   below : (i : ℕ) → i < n → get_or l i 0 < n
   leads : (i : ℕ) → i < n → get_or l (get_or l i 0) 0 ≡ get_or l i 0
@@ -69,7 +69,7 @@ record Held (n : ℕ) (a b : List ℕ) (k : ℕ) (l : List ℕ) : Type 0 where
   joined : (i j : ℕ) → i < n → j < n → get_or l i 0 ≡ get_or l j 0 → Chain a b i j
 
 -- ---- at first each bus leads itself
-held_first : (n : ℕ) (a b : List ℕ) → Held n a b 0 (themselves n)
+held_first : (n : ℕ) (a b : List ℕ) → JoinedSoFar n a b 0 (themselves n)
 unfolding themselves
 held_first n a b =
     record {
@@ -81,7 +81,7 @@ held_first n a b =
     }
 
 -- ---- a turn: the set of corridor k's a takes the leader of its b
-module _ (n : ℕ) (a b : List ℕ) (sound : Ends n a b) (k : ℕ) (l : List ℕ) (K : k < length a) (h : Held n a b k l) where
+module _ (n : ℕ) (a b : List ℕ) (sound : Ends n a b) (k : ℕ) (l : List ℕ) (K : k < length a) (h : JoinedSoFar n a b k l) where
   abbrev old : ℕ
   old = get_or l (get_or a k 0) 0
 
@@ -161,7 +161,7 @@ module _ (n : ℕ) (a b : List ℕ) (sound : Ends n a b) (k : ℕ) (l : List ℕ
           chain_then (back k K (h.joined i (get_or b k 0) p (sound.to k K) (sym (follow_no old new _ u) ∙ same ∙ follow_yes old new _ v)))
           (from_a j q v)
 
-  held_next : Held n a b (suc k) l'
+  held_next : JoinedSoFar n a b (suc k) l'
   held_next = record { size = turn_size; below = turn_below; leads = turn_leads; ends = turn_ends; joined = turn_joined }
 
 -- ---- all corridors
@@ -174,6 +174,6 @@ pub led : (n : ℕ) (a b : List ℕ) → Ends n a b → Led n a b (leaders_of n 
 unfolding leaders_of join_all
 led n a b sound = record { size = h.size; below = h.below; leads = h.leads; ends = h.ends; joined = h.joined; alike = alike a b (leaders_of n a b) h.ends }
   where
-    h : Held n a b (length a) (iter (join_at a b) (length a) 0 (themselves n))
+    h : JoinedSoFar n a b (length a) (iter (join_at a b) (length a) 0 (themselves n))
     h =
-        iter_carries (join_at a b) (Held n a b) (length a) (λ k l K p. held_next n a b sound k l K p) (length a) 0 (themselves n) (zero-add (length a)) (held_first n a b)
+        iter_carries (join_at a b) (JoinedSoFar n a b) (length a) (λ k l K p. held_next n a b sound k l K p) (length a) 0 (themselves n) (zero-add (length a)) (held_first n a b)

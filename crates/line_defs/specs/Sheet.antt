@@ -44,10 +44,10 @@ line_sheet levels corridors ladder km spread sheet =
     worked_by levels corridors ladder km spread sheet (check_of levels corridors ladder km spread (length sheet))
 
 -- ---- what is true, in an answer, of the two results that the rules do not fix
-pub record Within (corridors : ℕ) (km spread : List Float) : Type 0 where
+pub record SheetWithin (corridors : ℕ) (km spread : List Float) : Type 0 where
   pub powers : (k : ℕ) → k < corridors → PowerWithin (at spread k) (kept_spread (at spread k))
   pub loads : (k : ℕ) → k < corridors → Loadable (at km k) (loadability_of (at km k))
 
 abbrev pub WhereAnswered : Result (Unit {0}) Refusal → ℕ → List Float → List Float → Type 0
-WhereAnswered (Ok tt) corridors km spread = Within corridors km spread
+WhereAnswered (Ok tt) corridors km spread = SheetWithin corridors km spread
 WhereAnswered (Err f) corridors km spread = Unit

@@ -4,7 +4,7 @@ use lib.Ieee.{Float, binary64, fits}
 use Rattle.loops.specs.Figures.{at}
 use Rattle.refusal.specs.declared.Refusal.{Refusal}
 use Rattle.line_defs.specs.Request.{check_of, Sound}
-use Rattle.line_defs.specs.Sheet.{sheet_of, outcome, worked_by, line_sheet, Within}
+use Rattle.line_defs.specs.Sheet.{sheet_of, outcome, worked_by, line_sheet, SheetWithin}
 use Rattle.line_sheet.proofs.Checks.{spread_of_lem}
 use Rattle.line_defs.proofs.Spreads.{kept_within}
 use Rattle.line_defs.proofs.Curve.{loadable}
@@ -20,7 +20,7 @@ module _ (levels corridors : ℕ) (ladder km spread sheet : List Float) where
   unfolding line_sheet worked_by
   is_worked s e h = rw (e, h)
 
-pub within : (levels corridors : ℕ) (ladder km spread : List Float) → ((k : ℕ) → T (fits binary64 (at spread k))) → Sound levels corridors ladder km spread → Within corridors km spread
+pub within : (levels corridors : ℕ) (ladder km spread : List Float) → ((k : ℕ) → T (fits binary64 (at spread k))) → Sound levels corridors ladder km spread → SheetWithin corridors km spread
 within levels corridors ladder km spread held s = record {
   powers = λ k h. kept_within (at spread k) (held k) (spread_of_lem (at spread k) (s.spreads k h));
   loads = λ k h. loadable (at km k);

@@ -6,7 +6,7 @@ use Prim.Native.Nat.{ℕ}
 use Rattle.casefile_defs.specs.Moving.{moved_as, move_forward, move_back}
 use Rattle.casefile_defs.specs.Tables.{Places, held}
 use Rattle.casefile_theorems.proofs.Bytes.{Bytes}
-use Rattle.casefile_theorems.proofs.RoundTrip.{Alike, forward_alike, back_alike}
+use Rattle.casefile_theorems.proofs.RoundTrip.{SameFile, forward_alike, back_alike}
 use Rattle.case_defs.specs.Cases.{case_in}
 use Rattle.planned_files.specs.Files.{filed, plan_of, plan_read, plan_file}
 use Rattle.listing.specs.Listing.{case_text, read_text, file_text}
@@ -19,7 +19,7 @@ pub record Same (s t : List ℕ) : Type 0 where
   pub plan : plan_file t ≡ plan_file s
   pub text : file_text t ≡ file_text s
 
-same : (s t : List ℕ) → Alike s t → Same s t
+same : (s t : List ℕ) → SameFile s t → Same s t
 unfolding plan_file file_text held
 same s t a = record {
   plan =

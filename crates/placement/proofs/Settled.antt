@@ -81,7 +81,7 @@ module _ (w : Network) (sources : List ℕ) where
     pub relaxed : (k j c : ℕ) → k < w.n → j < w.n → c < w.m → (M s k ≡ candidate → ⊥) → Joins w c k j → Relaxed w s k c j
 
   -- within a turn: bus i was settled last, and its corridors below c are considered
-  pub record Within (i c : ℕ) (s : Labels) : Type 0 where
+  pub record SettledWithin (i c : ℕ) (s : Labels) : Type 0 where
     pub kept : Kept s
     pub done : M s i ≡ settled
     pub last : (k : ℕ) → k < w.n → M s k ≡ settled → le (D s k) (D s i) ≡ true
@@ -93,7 +93,7 @@ module _ (w : Network) (net : Net w.n w.m w.a w.b w.km) (sources : List ℕ) whe
       ⊎_elim (λ e. subst (λ (x : Float). T (unsigned x) × T (fits binary64 x)) (sym e) infinity_unsigned) (λ p. chain_unsigned w net p) (k.known j h)
 
   -- ---- a corridor that changes nothing
-  pub advance : (i c : ℕ) (s : Labels) → Within w sources i c s → ((j : ℕ) → j < w.n → Joins w c i j → Relaxed w s i c j) → Within w sources i (suc c) s
+  pub advance : (i c : ℕ) (s : Labels) → SettledWithin w sources i c s → ((j : ℕ) → j < w.n → Joins w c i j → Relaxed w s i c j) → SettledWithin w sources i (suc c) s
   advance i c s b x =
       record {
         kept = b.kept;
@@ -112,7 +112,7 @@ module _ (w : Network) (net : Net w.n w.m w.a w.b w.km) (sources : List ℕ) whe
   -- ---- a corridor over which bus j₀ is reached
   module _ (i c j₀ : ℕ) (s t : Labels) (hi : i < w.n) (hc : c < w.m) (jo : Joins w c i j₀) (only : (j : ℕ) → Joins w c i j → j ≡ j₀)
       (ch : Changed s t j₀ (plus (D s i) (at w.km c)) (F s i)) (free : M s j₀ ≡ settled → ⊥) (less : lt (plus (D s i) (at w.km c)) (D s j₀) ≡ true)
-      (b : Within w sources i c s) where
+      (b : SettledWithin w sources i c s) where
     i≢j₀ : i ≡ j₀ → ⊥
     i≢j₀ e = free (subst (λ (x : ℕ). M s x ≡ settled) e b.done)
 
@@ -196,7 +196,7 @@ module _ (w : Network) (net : Net w.n w.m w.a w.b w.km) (sources : List ℕ) whe
         ∙ ap (λ (y : Float). le (plus (D s i) (at w.km c)) (plus y (at w.km c))) (ch.dist_else i i≢j₀)
         ∙ le_refl (plus (D s i) (at w.km c)) sign_nd
 
-    pub reach_step : Within w sources i (suc c) t
+    pub reach_step : SettledWithin w sources i (suc c) t
     reach_step =
         record {
           kept = reach_kept;

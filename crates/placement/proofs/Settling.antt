@@ -26,7 +26,7 @@ use Rattle.loops.proofs.Sums.{unsigned, plus_unsigned, plus_grows, le_refl, le_t
 use Rattle.placement.proofs.Chains.{length_at, far_bus}
 use Rattle.placement.proofs.Best.{Best, first_best, next_best}
 use Rattle.placement.proofs.Count.{left, left_reached, left_settled, all_settled}
-use Rattle.placement.proofs.Settled.{M, D, F, not_both, reached_changes, Kept, Relaxed, Stand, Within, sign_at, advance, reach_step}
+use Rattle.placement.proofs.Settled.{M, D, F, not_both, reached_changes, Kept, Relaxed, Stand, SettledWithin, sign_at, advance, reach_step}
 
 -- ---- the tests of step 1
 touches : (a b i : ℕ) → (eqb a i || eqb b i) ≡ true → ((a ≡ i) × (b ≡ far_end a b i)) ⊎ ((a ≡ far_end a b i) × (b ≡ i))
@@ -98,7 +98,7 @@ module _ (w : Network) (net : Net w.n w.m w.a w.b w.km) (sources : List ℕ) whe
   -- ---- a corridor considered
   -- what the considering of corridor c from i keeps: the invariant, and how many buses are left
   abbrev Goes : ℕ → ℕ → Labels → ℕ → Type 0
-  Goes i c s k = Within w sources i c s × (left settled s.mark w.n ≡ k)
+  Goes i c s k = SettledWithin w sources i c s × (left settled s.mark w.n ≡ k)
 
   module _ (i c : ℕ) (s : Labels) (k : ℕ) (hi : i < w.n) (hc : c < w.m) (g : Goes i c s k) where
     -- a corridor that does not end at i
@@ -195,7 +195,7 @@ module _ (w : Network) (net : Net w.n w.m w.a w.b w.km) (sources : List ℕ) whe
               ];
         }
 
-    pub settle_step : Within w sources i 0 (settle i s)
+    pub settle_step : SettledWithin w sources i 0 (settle i s)
     unfolding settle
     settle_step =
         record {

@@ -119,13 +119,13 @@ module _ (c : Case) where
       high_at j a (no n) = omega (arith, get_or-set_other counts k j v 0 n, b.high j a)
 
   -- ---- the other lists of a build
-  pub record Kept (level : List ℕ) (b : Build) : Type 0 where
+  pub record CountsKept (level : List ℕ) (b : Build) : Type 0 where
     pub floors : length b.floors ≡ c.corridors
     pub upsized : length b.upsized ≡ c.corridors
     pub drawn : Drawn c level b.designs
 
-  kept_bank_lem : (level : List ℕ) (b : Build) (k : ℕ) (mva : Float) → bank_below (circuit_at b k) ≡ true → lt (circuit_at b k).transformer_mva mva ≡ true → Kept level b
-      → Kept level (set_bank k mva b)
+  kept_bank_lem : (level : List ℕ) (b : Build) (k : ℕ) (mva : Float) → bank_below (circuit_at b k) ≡ true → lt (circuit_at b k).transformer_mva mva ≡ true → CountsKept level b
+      → CountsKept level (set_bank k mva b)
   unfolding set_bank
   kept_bank_lem level b k mva e l h =
       let w : k < c.corridors = omega (arith, bank_in b.designs k e, drawn_size c level b.designs h.drawn) in
@@ -135,28 +135,28 @@ module _ (c : Case) where
         drawn = drawn_bank c level b.designs h.drawn k mva w e l;
       }
 
-  pub kept_rebuilt : (level again : List ℕ) (b : Build) → Kept level b → Kept again (rebuilt c again b)
+  pub kept_rebuilt : (level again : List ℕ) (b : Build) → CountsKept level b → CountsKept again (rebuilt c again b)
   unfolding rebuilt
   kept_rebuilt level again b h = record { floors = h.floors; upsized = h.upsized; drawn = drawn_again c again b.floors }
 
   -- ---- sizing at some levels, which stay. st is what stiffening added before
-  pub record Sized (level : List ℕ) (st : ℕ) (z : Sizing) : Type 0 where
+  pub record CountsSized (level : List ℕ) (st : ℕ) (z : Sizing) : Type 0 where
     pub built : Built z.build.circuits (z.capacity + st)
-    pub kept : Kept level z.build
+    pub kept : CountsKept level z.build
     pub places : length z.marks ≡ c.buses
     pub still : promote c.mode ≡ false → z.marks ≡ no_marks c.buses
 
   module _ (level : List ℕ) (unraised : promote c.mode ≡ false → level ≡ first_levels c) (st : ℕ) where
     enlarge_sized : (k : ℕ) (mva : Float) (b : Bool) (z : Sizing)
-        → (b ≡ true → (bank_below (circuit_at z.build k) ≡ true) × (lt (circuit_at z.build k).transformer_mva mva ≡ true)) → Sized level st z
-        → Sized level st (enlarge_if b k mva z)
+        → (b ≡ true → (bank_below (circuit_at z.build k) ≡ true) × (lt (circuit_at z.build k).transformer_mva mva ≡ true)) → CountsSized level st z
+        → CountsSized level st (enlarge_if b k mva z)
     unfolding set_bank
     enlarge_sized k mva false z t f = f
     enlarge_sized k mva true z t f =
         record { built = f.built; kept = kept_bank_lem level z.build k mva (t refl).0 (t refl).1 f.kept; places = f.places; still = f.still }
 
-    add_sized : (cap need k : ℕ) (capped b : Bool) (z : Sizing) → k < c.corridors → cap ≡ cap_of c k → ltb (count_at z.build k) (min need cap) ≡ b → Sized level st z
-        → Sized level st (add_if b k (min need cap) capped z)
+    add_sized : (cap need k : ℕ) (capped b : Bool) (z : Sizing) → k < c.corridors → cap ≡ cap_of c k → ltb (count_at z.build k) (min need cap) ≡ b → CountsSized level st z
+        → CountsSized level st (add_if b k (min need cap) capped z)
     unfolding set_count
     add_sized cap need k capped false z h e t f = record { built = f.built; kept = f.kept; places = f.places; still = f.still }
     add_sized cap need k capped true z h e t f =
@@ -173,8 +173,8 @@ module _ (c : Case) where
           still = f.still;
         }
 
-    raise_or_add_sized : (need k : ℕ) (b : Bool) (z : Sizing) → k < c.corridors → raises_for c.mode (top_of c level k) need ≡ b → Sized level st z
-        → Sized level st (raise_or_add b c level need k z)
+    raise_or_add_sized : (need k : ℕ) (b : Bool) (z : Sizing) → k < c.corridors → raises_for c.mode (top_of c level k) need ≡ b → CountsSized level st z
+        → CountsSized level st (raise_or_add b c level need k z)
     raise_or_add_sized need k true z h e f =
         record {
           built = f.built;
@@ -187,14 +187,14 @@ module _ (c : Case) where
         add_sized cap need k (z.capped || ltb cap need) (ltb (count_at z.build k) (min need cap)) z h
         (cap_is level z.build.designs f.kept.drawn unraised k h) refl f
 
-    grow_sized : (required : Float) (k : ℕ) (b : Bool) (z : Sizing) → k < c.corridors → Sized level st z → Sized level st (grow_if b c level required k z)
+    grow_sized : (required : Float) (k : ℕ) (b : Bool) (z : Sizing) → k < c.corridors → CountsSized level st z → CountsSized level st (grow_if b c level required k z)
     grow_sized required k true z h f = f
     grow_sized required k false z h f = wanting (needed_circuits required (circuit_at z.build k))
       where
-        wanting : (need : ℕ) → Sized level st (grow_to c level k z need)
+        wanting : (need : ℕ) → CountsSized level st (grow_to c level k z need)
         wanting need = raise_or_add_sized need k (raises_for c.mode (top_of c level k) need) z h refl f
 
-    pub one_sized : (flows : List Float) (k : ℕ) → k < c.corridors → (z : Sizing) → Sized level st z → Sized level st (size_one c level flows k z)
+    pub one_sized : (flows : List Float) (k : ℕ) → k < c.corridors → (z : Sizing) → CountsSized level st z → CountsSized level st (size_one c level flows k z)
     unfolding size_one grow enlarge
     one_sized flows k h z f =
         let r = required_for (at flows k) in
@@ -205,17 +205,17 @@ module _ (c : Case) where
         grow_sized r k (enough r (count_at y.build k) (circuit_at y.build k)) y h
         (enlarge_sized k next (enlarges r n d next) z (λ e. both (bank_below d) _ (both (not (enough r n d)) _ e).1) f)
 
-    pub all_sized : (flows : List Float) (b : Build) (capacity : ℕ) → Built b.circuits (capacity + st) → Kept level b
-        → Sized level st (size_all c level flows b capacity)
+    pub all_sized : (flows : List Float) (b : Build) (capacity : ℕ) → Built b.circuits (capacity + st) → CountsKept level b
+        → CountsSized level st (size_all c level flows b capacity)
     unfolding size_all
     all_sized flows b capacity h k =
-        iter_to (Sized level st) (size_one c level flows) c.corridors (one_sized flows) (sizing b (no_marks c.buses) capacity false false)
+        iter_to (CountsSized level st) (size_one c level flows) c.corridors (one_sized flows) (sizing b (no_marks c.buses) capacity false false)
         (record { built = h; kept = k; places = length-replicate c.buses 0; still = λ n. refl })
 
   -- ---- stiffening, where the mode promotes. cp is what sizing added before
   pub record Stiff (level : List ℕ) (cp : ℕ) (s : Stiffening) : Type 0 where
     pub built : Built s.build.circuits (cp + s.stiffening)
-    pub kept : Kept level s.build
+    pub kept : CountsKept level s.build
     pub places : length s.marks ≡ c.buses
     pub total : s.total ≡ sum s.build.circuits
 
@@ -291,7 +291,7 @@ module _ (c : Case) where
       unfolding stiffen_all
       all_stiff roots s h = stages_keep (stiffen_component c P led level round G v) (Stiff level cp) roots component_stiff s h
 
-    pub stiff_from : (G : Budget) (b : Build) (stiffening : ℕ) → length level ≡ c.buses → Built b.circuits (cp + stiffening) → Kept level b
+    pub stiff_from : (G : Budget) (b : Build) (stiffening : ℕ) → length level ≡ c.buses → Built b.circuits (cp + stiffening) → CountsKept level b
         → Stiff level cp (stiffen_from level G b stiffening)
     unfolding stiffen_from
     stiff_from G b stiffening e h k = record { built = h; kept = k; places = length-replicate (length level) 0 ∙ e; total = refl }

@@ -19,7 +19,7 @@ use Rattle.plan_defs.specs.Rounds.{Draft, rounds, round_budget, all_rounds}
 use Rattle.plan_defs.specs.Fill.{order_of}
 use Rattle.plan_defs.specs.Plan.{peak_of, first_raised, first_draft, Opened, opened_with, opening, Ready, finished_to, finished, ready_of}
 use Rattle.plan_defs.proofs.Stages.{On, on_all, on_both, on_onward}
-use Rattle.plan_defs.proofs.Solved.{Solved, solved as state-solved}
+use Rattle.plan_defs.proofs.Solved.{StateSolved, solved as state-solved}
 use Rattle.plan_defs.proofs.Rising.{Lifted, raises_lifted}
 use Rattle.plan_defs.proofs.Counts.{built_first}
 use Rattle.plan_defs.proofs.Rounds.{Sound, Ran, all_ran}
@@ -88,7 +88,7 @@ module _ (c : Case) where
       (on_both (Ran c planning_max_rounds) Observed (all_rounds c o.peak o.led o.draft)
       (all_ran c o.peak n o.led o.draft h.sound h.no_round) (observed o.peak o.led o.draft h.counts))
       (λ s r.
-      on_onward (Solved o.peak.n (length s.build.designs)) Done (planning_state o.peak s.build.designs s.build.circuits (zeros c.buses)) _
+      on_onward (StateSolved o.peak.n (length s.build.designs)) Done (planning_state o.peak s.build.designs s.build.circuits (zeros c.buses)) _
       (state-solved o.peak s.build.designs s.build.circuits (zeros c.buses))
       (λ v w. record { led = h.led; dispatched = h.dispatched; peak = h.peak; ran = r.0; observed = r.1; flows = v.flows; all_flows = w.flows; finite_flows = w.finite_flows; order = refl }))
 

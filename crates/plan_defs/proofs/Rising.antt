@@ -23,7 +23,7 @@ use Rattle.plan_defs.proofs.Lists.{count_more, count_none, sum_tab}
 use Rattle.plan_defs.proofs.Stages.{On, on_onward}
 use Rattle.plan_defs.proofs.Accepted.{Accepted, first_below}
 use Rattle.plan_defs.proofs.Drawn.{Drawn, drawn_first, drawn_again}
-use Rattle.plan_defs.proofs.Solved.{Solved, solved}
+use Rattle.plan_defs.proofs.Solved.{StateSolved, solved}
 
 -- ---- one bus
 pub raised_le : (l : ℕ) (r : Option ℕ) → raised_to l r ≤ l
@@ -136,7 +136,7 @@ module _ (c : Case) where
     unfolding passes
     passes_lifted zero s l = l
     passes_lifted (suc d) s l =
-        on_onward (Solved P.n (length s.designs)) Lifted (planning_state P s.designs counts (zeros c.buses)) _ (solved P s.designs counts (zeros c.buses))
+        on_onward (StateSolved P.n (length s.designs)) Lifted (planning_state P s.designs counts (zeros c.buses)) _ (solved P s.designs counts (zeros c.buses))
         (λ v h.
         passed_lifted d (moved_buses s.level (heavy_marks c s v.flows)) s (heavy_marks c s v.flows) refl l (passes_lifted d))
 

@@ -19,9 +19,9 @@ use Rattle.plan_defs.specs.Stiffen.{Stiffening, budget_of, stiffen_from, stiffen
 use Rattle.plan_defs.specs.Rounds.{Draft, RoundEnd, Again, Done, Turn, stiffened_by, stiffened_to, stiffen_if, added_if, sized_by, solved_to, one_round, continue, rounds, round_budget, all_rounds}
 use Rattle.plan_defs.proofs.Stages.{On, on_onward, on_both}
 use Rattle.plan_defs.proofs.Turns.{Told, round_told}
-use Rattle.plan_defs.proofs.Solved.{Solved, solved as state-solved}
+use Rattle.plan_defs.proofs.Solved.{StateSolved, solved as state-solved}
 use Rattle.plan_defs.proofs.Rising.{Risen, risen_more, moved_sum, none_moved}
-use Rattle.plan_defs.proofs.Counts.{Built, Kept, kept_rebuilt, Sized, all_sized, Stiff, all_stiff, stiff_from}
+use Rattle.plan_defs.proofs.Counts.{Built, CountsKept, kept_rebuilt, CountsSized, all_sized, Stiff, all_stiff, stiff_from}
 
 -- a redesign changes no count
 rebuilt_counts : (c : Case) (level : List ℕ) (b : Build) (added : ℕ) → Built c b.circuits added → Built c (rebuilt c level b).circuits added
@@ -32,7 +32,7 @@ module _ (c : Case) where
   pub record Sound (s : Draft) : Type 0 where
     pub risen : Risen c s.level
     pub built : Built c s.build.circuits (s.capacity + s.stiffening)
-    pub kept : Kept c s.level s.build
+    pub kept : CountsKept c s.level s.build
     pub warm : length s.warm ≡ c.buses
     pub promoted : s.promoted + sum s.level ≤ sum (first_levels c)
 
@@ -62,7 +62,7 @@ module _ (c : Case) where
           promoted = omega (arith, h.promoted, moved_sum s.level t.marks);
         }
 
-    stiffen_next : (b : Bool) (s : Draft) (v : PlanningCase) (z : Sizing) → promote c.mode ≡ b → Sound s → Angles v → Sized c s.level s.stiffening z
+    stiffen_next : (b : Bool) (s : Draft) (v : PlanningCase) (z : Sizing) → promote c.mode ≡ b → Sound s → Angles v → CountsSized c s.level s.stiffening z
         → On SoundTurn (stiffen_if c P led b s v z)
     stiffen_next true s v z e h w f =
         let G = budget_of c s.level in
@@ -75,21 +75,21 @@ module _ (c : Case) where
         record { risen = h.risen; built = f.built; kept = f.kept; warm = w; promoted = h.promoted }
 
     -- ---- after sizing
-    added_next : (b : Bool) (s : Draft) (v : PlanningCase) (z : Sizing) → Sound s → Angles v → Sized c s.level s.stiffening z
+    added_next : (b : Bool) (s : Draft) (v : PlanningCase) (z : Sizing) → Sound s → Angles v → CountsSized c s.level s.stiffening z
         → On SoundTurn (added_if c P led b s v z)
     added_next true s v z h w f =
         record { risen = h.risen; built = f.built; kept = f.kept; warm = w; promoted = h.promoted }
     added_next false s v z h w f = stiffen_next (promote c.mode) s v z refl h w f
 
     -- a bus moves only where the mode promotes
-    moving : (m : ℕ) (s : Draft) (z : Sizing) → moved_buses s.level z.marks ≡ suc m → Sized c s.level s.stiffening z → (b : Bool) → promote c.mode ≡ b
+    moving : (m : ℕ) (s : Draft) (z : Sizing) → moved_buses s.level z.marks ≡ suc m → CountsSized c s.level s.stiffening z → (b : Bool) → promote c.mode ≡ b
         → promote c.mode ≡ true
     moving m s z e f true p = p
     moving m s z e f false p =
         let x : moved_buses s.level z.marks ≡ 0 = ap (moved_buses s.level) (f.still p) ∙ none_moved s.level c.buses in
         absurd (omega arith)
 
-    sized_next : (m : ℕ) (s : Draft) (v : PlanningCase) (z : Sizing) → moved_buses s.level z.marks ≡ m → Sound s → Angles v → Sized c s.level s.stiffening z
+    sized_next : (m : ℕ) (s : Draft) (v : PlanningCase) (z : Sizing) → moved_buses s.level z.marks ≡ m → Sound s → Angles v → CountsSized c s.level s.stiffening z
         → On SoundTurn (sized_by c P led m s v z)
     sized_next zero s v z e h w f = added_next z.added s v z h w f
     sized_next (suc m) s v z e h w f =
@@ -104,7 +104,7 @@ module _ (c : Case) where
     pub round_next : (s : Draft) → Sound s → On SoundTurn (one_round c P led s)
     unfolding one_round
     round_next s h =
-        on_onward (Solved P.n (length s.build.designs)) SoundTurn (planning_state P s.build.designs s.build.circuits s.warm) (solved_to c P led s)
+        on_onward (StateSolved P.n (length s.build.designs)) SoundTurn (planning_state P s.build.designs s.build.circuits s.warm) (solved_to c P led s)
         (state-solved P s.build.designs s.build.circuits s.warm)
         (λ v w.
         let z = size_all c s.level v.flows s.build s.capacity in

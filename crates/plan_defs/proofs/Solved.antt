@@ -24,13 +24,13 @@ pub all_finite_lem : (l : List Float) → all_finite l ≡ true → (i : ℕ) �
 unfolding all_finite
 all_finite_lem l e = all_pass (finite_at l) (length l) (leb-true (length l) (first (finite_at l) (length l) 0) e)
 
-pub record Solved (n m : ℕ) (v : PlanningCase) : Type 0 where
+pub record StateSolved (n m : ℕ) (v : PlanningCase) : Type 0 where
   pub angles : length v.theta ≡ n
   pub flows : length v.flows ≡ m
   pub finite_angles_holds : (i : ℕ) → i < length v.theta → finite (at v.theta i) ≡ true
   pub finite_flows : (k : ℕ) → k < length v.flows → finite (at v.flows k) ≡ true
 
-pub solved : (P : Peak) (ds : List CircuitDesign) (counts : List ℕ) (guess : List Float) → On (Solved P.n (length ds)) (planning_state P ds counts guess)
+pub solved : (P : Peak) (ds : List CircuitDesign) (counts : List ℕ) (guess : List Float) → On (StateSolved P.n (length ds)) (planning_state P ds counts guess)
 unfolding planning_state edges_for flows_of
 solved P ds counts guess = go (all_finite theta && all_finite (flows_of E theta)) refl
   where
@@ -43,7 +43,7 @@ solved P ds counts guess = go (all_finite theta && all_finite (flows_of E theta)
     v : PlanningCase
     v = record { edges = E; theta = theta; flows = flows_of E theta }
 
-    go : (b : Bool) → (all_finite theta && all_finite (flows_of E theta)) ≡ b → On (Solved P.n (length ds)) (if_finite b v)
+    go : (b : Bool) → (all_finite theta && all_finite (flows_of E theta)) ≡ b → On (StateSolved P.n (length ds)) (if_finite b v)
     go false e = tt
     go true e =
         let f = both (all_finite theta) (all_finite (flows_of E theta)) e in

@@ -79,12 +79,12 @@ module _ (full : ℕ → ℕ) (target : ℕ) (order : List ℕ) where
             (ap (λ (j : ℕ). below_full full (get_or order j 0) s.filled) (sym r.3) ∙ c)
 
     -- ---- a step: the corridor at the cursor, as a pass would treat it
-    record Stepped (n : ℕ) (s t : Cursor) : Type 0 where
+    record CursorStepped (n : ℕ) (s t : Cursor) : Type 0 where
       inv : Inv (suc n) t
       fills_it : t.filled ≡ fill_at full target (nth n) s.filled
 
     advanced : (n : ℕ) (s : Cursor) → Inv n s → runs target (length order) s ≡ true → (b : Bool) → below_full full (nth s.cursor) s.filled ≡ b
-        → Stepped n s (advance_if b (nth s.cursor) s)
+        → CursorStepped n s (advance_if b (nth s.cursor) s)
     advanced n s h e true f =
         record {
           inv = record { window = record { idle_le = zero-le; shut = λ q l k. absurd (omega arith) }; place = λ x. (let y = h.place e in omega arith) };
@@ -116,11 +116,11 @@ module _ (full : ℕ → ℕ) (target : ℕ) (order : List ℕ) where
               ∙ ap (λ (i : ℕ). fill_at full target (nth i) s.filled) (h.place e);
         }
 
-    stepped : (n : ℕ) (s : Cursor) → Inv n s → Stepped n s (cursor_step full target order s)
+    stepped : (n : ℕ) (s : Cursor) → Inv n s → CursorStepped n s (cursor_step full target order s)
     unfolding cursor_step advance
     stepped n s h = go (runs target (length order) s) refl
       where
-        go : (b : Bool) → runs target (length order) s ≡ b → Stepped n s (cursor_if b full order s)
+        go : (b : Bool) → runs target (length order) s ≡ b → CursorStepped n s (cursor_if b full order s)
         go true e = advanced n s h e (below_full full (nth s.cursor) s.filled) refl
         go false e =
             record {

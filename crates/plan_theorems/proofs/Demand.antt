@@ -35,7 +35,7 @@ use Rattle.plan_defs.specs.Demand.{cap_of, kv_given, Demand3, Tallies}
 use Rattle.plan_defs.proofs.Lists.{sum_parts}
 use Rattle.plan_defs.proofs.Stages.{On, on_onward}
 use Rattle.plan_defs.proofs.Accepted.{Accepted, accepted, cap_few}
-use Rattle.plan_defs.proofs.Solved.{Solved, solved}
+use Rattle.plan_defs.proofs.Solved.{StateSolved, solved}
 use Rattle.plan_defs.proofs.Counts.{Built, full_cap}
 use Rattle.plan_defs.proofs.Opened.{Done, done}
 use Rattle.plan_theorems.proofs.Filling.{Grown, grown_same, rounds_grown, Ends, reached, unreached, fills}
@@ -213,7 +213,7 @@ module _ (c : Case) (target : ℕ) (ok : Accepted c target) (binary : Binary c) 
   unfolding closing
   closed_both r d =
       let f = fill c target r.order r.draft.build.circuits in
-      on_onward (Solved r.peak.n (length r.draft.build.designs)) Both (planning_state r.peak r.draft.build.designs f.counts (zeros c.buses)) _
+      on_onward (StateSolved r.peak.n (length r.draft.build.designs)) Both (planning_state r.peak r.draft.build.designs f.counts (zeros c.buses)) _
       (solved r.peak r.draft.build.designs f.counts (zeros c.buses))
       (λ v h. (demand_of_lem c target ok binary r d v, tallies_of c target ok binary r d v))
 

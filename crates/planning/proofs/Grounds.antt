@@ -22,14 +22,14 @@ module _ (leader bus slack : List ℕ) where
   abbrev all : List ℕ
   all = grounds_of (slack_case bus slack) leader
 
-  pub record Grounded (ground : List ℕ) (count i : ℕ) : Type 0 where
+  pub record GroundsSoFar (ground : List ℕ) (count i : ℕ) : Type 0 where
     pub within : i ≤ length leader
     pub few : count ≤ i
     pub size : length ground ≡ length leader
     pub kept : take count ground ++ map of (pass_from (leads leader) (length leader - i) i) ≡ all
     pub past : drop count ground ≡ replicate (length leader - count) 0
 
-  pub grounded_start : (old ground : List ℕ) → length old ≡ length leader → ground ≡ replicate (length old) 0 → Grounded ground 0 0
+  pub grounded_start : (old ground : List ℕ) → length old ≡ length leader → ground ≡ replicate (length old) 0 → GroundsSoFar ground 0 0
   unfolding grounds_of
   grounded_start old ground e h =
       record {
@@ -40,8 +40,8 @@ module _ (leader bus slack : List ℕ) where
         past = h ∙ ap (λ (k : ℕ). replicate k 0) (e ∙ sym (sub-zero (length leader)));
       }
 
-  pub grounded_yes : (ground : List ℕ) (count i root a : ℕ) → Grounded ground count i → i < length leader → root ≡ get_or leader i 0 → root ≡ i → a ≡ of (get_or leader i 0)
-      → Grounded (set ground count a) (count + 1) (i + 1)
+  pub grounded_yes : (ground : List ℕ) (count i root a : ℕ) → GroundsSoFar ground count i → i < length leader → root ≡ get_or leader i 0 → root ≡ i → a ≡ of (get_or leader i 0)
+      → GroundsSoFar (set ground count a) (count + 1) (i + 1)
   grounded_yes ground count i root a G h p q e =
       let own : get_or leader i 0 ≡ i = sym p ∙ q in
       let next = map of (pass_from (leads leader) (length leader - (i + 1)) (i + 1)) in
@@ -57,7 +57,7 @@ module _ (leader bus slack : List ℕ) where
         past = collect_past ground count a 0 (length leader) (omega (arith, G.few)) G.past;
       }
 
-  pub grounded_no : (ground : List ℕ) (count i : ℕ) → Grounded ground count i → i < length leader → leads leader i ≡ false → Grounded ground count (i + 1)
+  pub grounded_no : (ground : List ℕ) (count i : ℕ) → GroundsSoFar ground count i → i < length leader → leads leader i ≡ false → GroundsSoFar ground count (i + 1)
   grounded_no ground count i G h e =
       record {
         within = omega arith;
@@ -67,7 +67,7 @@ module _ (leader bus slack : List ℕ) where
         past = G.past;
       }
 
-  pub grounded_end : (ground : List ℕ) (count i : ℕ) → Grounded ground count i → length leader ≤ i → (count ≡ length all) × (ground ≡ up_to (length leader) 0 all)
+  pub grounded_end : (ground : List ℕ) (count i : ℕ) → GroundsSoFar ground count i → length leader ≤ i → (count ≡ length all) × (ground ≡ up_to (length leader) 0 all)
   grounded_end ground count i G h =
       let e : take count ground ++ [] ≡ all = ap (λ (ks : List ℕ). take count ground ++ map of ks) (sym (pass_end (leads leader) h)) ∙ G.kept in
       let l : count ≤ length ground = omega (arith, G.few, G.size, G.within) in

@@ -73,8 +73,8 @@ module _ (mode : PlanMode) (above : ℕ) (grid : GridColumns) (supply : SupplyCo
   abbrev pub Fits : Case → Type 0
   Fits o = (n ≡ o.buses) × (o.cap ≡ grid.cap)
 
-  abbrev pub Alike : (Case → Stage Draft) → (Case → Stage Draft) → Type 0
-  Alike X W = (o : Case) (target : ℕ) → Sound (C o) target → Fits o → X o ≡ W o
+  abbrev pub SameOfAll : (Case → Stage Draft) → (Case → Stage Draft) → Type 0
+  SameOfAll X W = (o : Case) (target : ℕ) → Sound (C o) target → Fits o → X o ≡ W o
 
   -- d rounds from what the slices hold, and what follows a round
   abbrev pub goes_on : ℕ → List ℕ → List ℕ → List Float → List Float → List ℕ → List Float → Progress → Case → Stage Draft
@@ -82,7 +82,7 @@ module _ (mode : PlanMode) (above : ℕ) (grid : GridColumns) (supply : SupplyCo
 
   -- none left
   pub ended : (level circuits : List ℕ) (banks floors : List Float) (upsized : List ℕ) (angle : List Float) (p : Progress) (W : Case → Stage Draft) (d : ℕ) → d ≤ 0
-      → Alike (goes_on d level circuits banks floors upsized angle p) W → Alike (λ o. going (draft_of (C o) level circuits banks floors upsized angle p)) W
+      → SameOfAll (goes_on d level circuits banks floors upsized angle p) W → SameOfAll (λ o. going (draft_of (C o) level circuits banks floors upsized angle p)) W
   unfolding rounds
   ended level circuits banks floors upsized angle p W d h whole o target s e =
       let z : 0 ≡ d = omega arith in
@@ -129,7 +129,7 @@ module _ (mode : PlanMode) (above : ℕ) (grid : GridColumns) (supply : SupplyCo
 
   -- ---- a round: it begins with d + 1 left, and is solved
   module _ (level circuits : List ℕ) (banks floors : List Float) (upsized : List ℕ) (angle : List Float) (p : Progress) (W : Case → Stage Draft) (d' d : ℕ) (some : d' ≡ suc d)
-      (size : length level ≡ n) (whole : Alike (goes_on d' level circuits banks floors upsized angle p) W) (theta flow : List Float) (r : Result (Unit {0}) Refusal)
+      (size : length level ≡ n) (whole : SameOfAll (goes_on d' level circuits banks floors upsized angle p) W) (theta flow : List Float) (r : Result (Unit {0}) Refusal)
       (E : Own) (edges : edges_in E ≡ edges_for (drawn_all (lines_for grid) level banks) circuits) (angles : ℕ) (angle_size : angles ≡ length level)
       (peak : solved_of r (edges_in E) theta flow ≡ planning_on (peak_for angles opened.grounds opened.injection) (edges_in E) angle) where
     solved : solved_of r (edges_for (drawn_all (lines_for grid) level banks) circuits) theta flow
@@ -157,14 +157,14 @@ module _ (mode : PlanMode) (above : ℕ) (grid : GridColumns) (supply : SupplyCo
     unfolding rounds
     begun o target s e = ap (λ (m : ℕ). rounds (C o) (P o) opened.leader m (S o)) (sym some) ∙ whole o target s e
 
-    pub round_refused : (f : Refusal) → r ≡ Err f → Alike (λ o. stopped f) W
+    pub round_refused : (f : Refusal) → r ≡ Err f → SameOfAll (λ o. stopped f) W
     unfolding one_round
     round_refused f q o target s e =
         let z : stopped f ≡ planning_state (P o) (drawn_all (C o) level banks) circuits angle =
         ap (λ (x : Result (Unit {0}) Refusal). solved_of x (Solved o).edges theta flow) (sym q) ∙ lifted o target s e in
         ap (λ (st : Stage PlanningCase). then d o (onward st (λ v. sized_to (C o) (P o) opened.leader (S o) v (size_all (C o) level v.flows (S o).build p.capacity)))) z ∙ begun o target s e
 
-    round_solved : r ≡ no_refusal → Alike (λ o. then d o (sized_to (C o) (P o) opened.leader (S o) (Solved o) (size_all (C o) level flow (S o).build p.capacity))) W
+    round_solved : r ≡ no_refusal → SameOfAll (λ o. then d o (sized_to (C o) (P o) opened.leader (S o) (Solved o) (size_all (C o) level flow (S o).build p.capacity))) W
     unfolding one_round
     round_solved q o target s e =
         let z : going (Solved o) ≡ planning_state (P o) (drawn_all (C o) level banks) circuits angle =
@@ -186,7 +186,7 @@ module _ (mode : PlanMode) (above : ℕ) (grid : GridColumns) (supply : SupplyCo
           ≡ size_all (size_for mode (length level) (grid_of grid.ladder grid.a grid.b grid.km grid.share l grid.sheet)) level flow (build_of (size_for mode (length level) (grid_of grid.ladder grid.a grid.b grid.km grid.share l grid.sheet)) level circuits banks floors upsized) p.capacity) (sym e.1)
           (sym (left_end mode (length level) grid level flow k circuits' banks' floors' upsized' marks' t all) ∙ sized))
 
-      sized_on : Alike (λ o. then d o (sized_to (C o) (P o) opened.leader (S o) (Solved o) (Z o))) W
+      sized_on : SameOfAll (λ o. then d o (sized_to (C o) (P o) opened.leader (S o) (Solved o) (Z o))) W
       sized_on o target s e = ap (λ (z : Sizing). then d o (sized_to (C o) (P o) opened.leader (S o) (Solved o) z)) (sized_is o target s e) ∙ round_solved q o target s e
 
       module _ (p' : Progress) (runs : p' ≡ running) (level'' : List ℕ) (banks'' : List Float) (moved : ℕ) (redrawn : Redrawn grid level supply marks' floors' banks' level'' banks'' moved) where
@@ -195,7 +195,7 @@ module _ (mode : PlanMode) (above : ℕ) (grid : GridColumns) (supply : SupplyCo
 
         -- a raise, then an addition, leads to another round
         pub sized_again : (ltb 0 moved || t.added) ≡ true
-            → Alike (goes_on d level'' circuits' banks'' floors' upsized' theta
+            → SameOfAll (goes_on d level'' circuits' banks'' floors' upsized' theta
             (record { rounds = p'.rounds; promoted = p'.promoted + moved; capacity = t.capacity; stiffening = p'.stiffening; converged = p'.converged; rested = p'.rested })) W
         sized_again h o target s e =
             ap (λ (x : Progress).
@@ -222,7 +222,7 @@ module _ (mode : PlanMode) (above : ℕ) (grid : GridColumns) (supply : SupplyCo
 
           -- a mode that does not promote is done
           pub sized_rested : promote mode ≡ false
-              → Alike (λ o.
+              → SameOfAll (λ o.
               going (draft_of (C o) level'' circuits' banks'' floors' upsized' theta
               (record { rounds = p'.rounds; promoted = p'.promoted; capacity = t.capacity; stiffening = p'.stiffening; converged = not t.capped; rested = true }))) W
           sized_rested m o target s e =
@@ -275,7 +275,7 @@ module _ (mode : PlanMode) (above : ℕ) (grid : GridColumns) (supply : SupplyCo
             go zero = rw back
             go (suc i) = rw back
 
-        stiffens_running : Alike (stiffens_on d level g E theta flow running t 0 circuits' banks' floors' upsized' marks'' u) W
+        stiffens_running : SameOfAll (stiffens_on d level g E theta flow running t 0 circuits' banks' floors' upsized' marks'' u) W
         unfolding stiffens_on stiffen_all
         stiffens_running o target s e =
             let G = budget_of (C o) level in
@@ -294,13 +294,13 @@ module _ (mode : PlanMode) (above : ℕ) (grid : GridColumns) (supply : SupplyCo
             to_stiffen : (o : Case) → sized_to (C o) (P o) opened.leader (S o) (Solved o) (Z o) ≡ stiffen_with (C o) (P o) opened.leader (S o) (Solved o) (Z o) (budget_of (C o) level)
             to_stiffen o = rw (same, none, m)
 
-        pub stiffens : Alike (stiffens_on d level g E theta flow p' t 0 circuits' banks' floors' upsized' marks'' u) W
+        pub stiffens : SameOfAll (stiffens_on d level g E theta flow p' t 0 circuits' banks' floors' upsized' marks'' u) W
         stiffens o target s e = ap (λ (x : Progress). stiffens_on d level g E theta flow x t 0 circuits' banks' floors' upsized' marks'' u o) runs ∙ stiffens_running o target s e
 
   -- ---- the components, one bus after another
   module _ (W : Case → Stage Draft) (d : ℕ) (level : List ℕ) (g : Limits) (E : Own) (theta flow : List Float) (p : Progress) (t : Tally) (size : length level ≡ n)
       (i : ℕ) (circuits : List ℕ) (banks floors : List Float) (upsized marks : List ℕ) (s : StiffeningTally)
-      (whole : Alike (stiffens_on d level g E theta flow p t i circuits banks floors upsized marks s) W) where
+      (whole : SameOfAll (stiffens_on d level g E theta flow p t i circuits banks floors upsized marks s) W) where
     module _ (more : i < length opened.leader) (circuits' : List ℕ) (banks' floors' : List Float) (upsized' marks' : List ℕ) (r : Result StiffeningTally Refusal)
         (led : LedStiffened i p.rounds (solved_by g grid level opened E theta) circuits banks floors upsized marks s circuits' banks' floors' upsized' marks' r) where
       stepped : (o : Case) (target : ℕ) → Sound (C o) target → Fits o
@@ -313,12 +313,12 @@ module _ (mode : PlanMode) (above : ℕ) (grid : GridColumns) (supply : SupplyCo
           (stiffened_as r (C o) level circuits' banks' floors' upsized' marks') (led.stiffened (with_units o mode above supply) target opened.injection flow sound (size ∙ e.0) e.1))
           ∙ whole o target sound e
 
-      pub stiffen_refused : (f : Refusal) → r ≡ Err f → Alike (λ o. stopped f) W
+      pub stiffen_refused : (f : Refusal) → r ≡ Err f → SameOfAll (λ o. stopped f) W
       stiffen_refused f q o target sound e =
           ap (λ (x : Result StiffeningTally Refusal). then d o (onward (onward (stiffened_as x (C o) level circuits' banks' floors' upsized' marks') (each_stage (component level p.rounds g E theta flow o) (pass_from (leads opened.leader) (length opened.leader - (i + 1)) (i + 1)))) (closes level theta p t o)))
           (sym q) ∙ stepped o target sound e
 
-      pub stiffen_next : (s' : StiffeningTally) → r ≡ Ok s' → Alike (stiffens_on d level g E theta flow p t (i + 1) circuits' banks' floors' upsized' marks' s') W
+      pub stiffen_next : (s' : StiffeningTally) → r ≡ Ok s' → SameOfAll (stiffens_on d level g E theta flow p t (i + 1) circuits' banks' floors' upsized' marks' s') W
       unfolding stiffens_on
       stiffen_next s' q o target sound e =
           ap (λ (x : Result StiffeningTally Refusal). then d o (onward (onward (stiffened_as x (C o) level circuits' banks' floors' upsized' marks') (each_stage (component level p.rounds g E theta flow o) (pass_from (leads opened.leader) (length opened.leader - (i + 1)) (i + 1)))) (closes level theta p t o)))
@@ -330,7 +330,7 @@ module _ (mode : PlanMode) (above : ℕ) (grid : GridColumns) (supply : SupplyCo
       forth : suc (p.rounds - 1) ≡ p.rounds
       forth = omega arith
 
-      closed : Alike (λ o. then d o (closes level theta p t o (stiff_of (C o) level circuits banks floors upsized marks s))) W
+      closed : SameOfAll (λ o. then d o (closes level theta p t o (stiff_of (C o) level circuits banks floors upsized marks s))) W
       unfolding stiffens_on
       closed o target sound e =
           ap (λ (st : Stage Stiffening). then d o (onward st (closes level theta p t o)))
@@ -338,7 +338,7 @@ module _ (mode : PlanMode) (above : ℕ) (grid : GridColumns) (supply : SupplyCo
           ∙ whole o target sound e
 
       pub stiffened_again : (ltb 0 moved || s.stiffened) ≡ true
-          → Alike (goes_on d level'' circuits banks'' floors upsized theta (record { rounds = p.rounds; promoted = p.promoted + moved; capacity = t.capacity; stiffening = s.stiffening; converged = p.converged; rested = p.rested })) W
+          → SameOfAll (goes_on d level'' circuits banks'' floors upsized theta (record { rounds = p.rounds; promoted = p.promoted + moved; capacity = t.capacity; stiffening = s.stiffening; converged = p.converged; rested = p.rested })) W
       stiffened_again h o target sound e = go moved refl h ∙ closed o target sound e
         where
           go : (m : ℕ) → moved ≡ m → (ltb 0 m || s.stiffened) ≡ true
@@ -356,7 +356,7 @@ module _ (mode : PlanMode) (above : ℕ) (grid : GridColumns) (supply : SupplyCo
               rw (y, x, u, w, forth, unrested, Going-on)
 
       pub stiffened_rested : (ltb 0 moved || s.stiffened) ≡ false
-          → Alike (λ o. going (draft_of (C o) level'' circuits banks'' floors upsized theta (record { rounds = p.rounds; promoted = p.promoted + moved; capacity = t.capacity; stiffening = s.stiffening; converged = not s.wide && not t.capped; rested = true }))) W
+          → SameOfAll (λ o. going (draft_of (C o) level'' circuits banks'' floors upsized theta (record { rounds = p.rounds; promoted = p.promoted + moved; capacity = t.capacity; stiffening = s.stiffening; converged = not s.wide && not t.capped; rested = true }))) W
       stiffened_rested h o target sound e = go moved refl h ∙ closed o target sound e
         where
           go : (m : ℕ) → moved ≡ m → (ltb 0 m || s.stiffened) ≡ false

@@ -28,10 +28,10 @@ use Rattle.planning.specs.declared.budgets.StiffeningTally.{StiffeningTally}
 use Rattle.planning.specs.declared.rounds.Progress.{Progress}
 use Rattle.planning.specs.Tables.{GridColumns, SupplyColumns, OpenedColumns, solved_by, edges_in}
 use Rattle.planning.proofs.Corridors.{left as to-size, left_start, left_turn}
-use Rattle.planning.proofs.Rounding.{Alike, goes_on, stiffens_on, ended, round_refused, sized_again, sized_rested, stiffens, stiffen_refused, stiffen_next, stiffened_again, stiffened_rested}
+use Rattle.planning.proofs.Rounding.{SameOfAll, goes_on, stiffens_on, ended, round_refused, sized_again, sized_rested, stiffens, stiffen_refused, stiffen_next, stiffened_again, stiffened_rested}
 
 -- what every point keeps of the levels, the circuits and the banks
-pub record Kept (grid : GridColumns) (level circuits : List ℕ) (banks : List Float) : Type 0 where
+pub record SweepKept (grid : GridColumns) (level circuits : List ℕ) (banks : List Float) : Type 0 where
   pub lines : Lines grid level
   pub banked : Banks banks
   pub few : Few circuits
@@ -43,10 +43,10 @@ running p = record { rounds = p.rounds + 1; promoted = p.promoted; capacity = p.
 module _ (mode : PlanMode) (above : ℕ) (grid : GridColumns) (supply : SupplyColumns) (opened : OpenedColumns) where
   -- ---- so many rounds are left; W is what all of them lead to
   pub record Rounds (left : ℕ) (level circuits : List ℕ) (banks floors : List Float) (upsized : List ℕ) (angle : List Float) (p : Progress) (W : Case → Stage Draft) : Type 0 where
-    pub whole : Alike mode above grid supply opened (length opened.leader) (goes_on mode above grid supply opened (length opened.leader) left level circuits banks floors upsized angle p) W
+    pub whole : SameOfAll mode above grid supply opened (length opened.leader) (goes_on mode above grid supply opened (length opened.leader) left level circuits banks floors upsized angle p) W
 
   -- ---- a round is solved, or refused; d are left after it
-  pub record Solved (d : ℕ) (level circuits : List ℕ) (banks floors : List Float) (upsized : List ℕ) (p : Progress) (e : Edges) (angle flow : List Float) (r : Result (Unit {0}) Refusal)
+  pub record SweepSolved (d : ℕ) (level circuits : List ℕ) (banks floors : List Float) (upsized : List ℕ) (p : Progress) (e : Edges) (angle flow : List Float) (r : Result (Unit {0}) Refusal)
       (W : Case → Stage Draft) : Type 0 where
     pub left : ℕ
     pub before : List Float
@@ -60,14 +60,14 @@ module _ (mode : PlanMode) (above : ℕ) (grid : GridColumns) (supply : SupplyCo
         ≡ planning_on (peak_for buses opened.grounds opened.injection) (edges_in e) before
 
   -- ---- the corridors from k on are left to size
-  pub record Sizes (d : ℕ) (level : List ℕ) (e : Edges) (angle flow : List Float) (p : Progress) (k : ℕ) (circuits : List ℕ) (banks floors : List Float) (upsized marks : List ℕ) (t : Tally)
+  pub record SweepSizes (d : ℕ) (level : List ℕ) (e : Edges) (angle flow : List Float) (p : Progress) (k : ℕ) (circuits : List ℕ) (banks floors : List Float) (upsized marks : List ℕ) (t : Tally)
       (W : Case → Stage Draft) : Type 0 where
     pub circuits₀ : List ℕ
     pub banks₀ : List Float
     pub floors₀ : List Float
     pub upsized₀ : List ℕ
     pub p₀ : Progress
-    pub solved : Solved d level circuits₀ banks₀ floors₀ upsized₀ p₀ e angle flow no_refusal W
+    pub solved : SweepSolved d level circuits₀ banks₀ floors₀ upsized₀ p₀ e angle flow no_refusal W
     pub runs : p ≡ running p₀
     pub sized : to-size mode (length level) grid level flow k circuits banks floors upsized marks t
         ≡ size_all (size_for mode (length level) grid) level flow (build_of (size_for mode (length level) grid) level circuits₀ banks₀ floors₀ upsized₀) p₀.capacity
@@ -79,13 +79,13 @@ module _ (mode : PlanMode) (above : ℕ) (grid : GridColumns) (supply : SupplyCo
     pub some : 1 ≤ p.rounds
     pub unconverged : p.converged ≡ false
     pub unrested : p.rested ≡ false
-    pub whole : Alike mode above grid supply opened (length opened.leader) (stiffens_on mode above grid supply opened (length opened.leader) d level g e angle flow p t i circuits banks floors upsized marks s) W
+    pub whole : SameOfAll mode above grid supply opened (length opened.leader) (stiffens_on mode above grid supply opened (length opened.leader) d level g e angle flow p t i circuits banks floors upsized marks s) W
 
 module _ {mode : PlanMode} {above : ℕ} {grid : GridColumns} {supply : SupplyColumns} {opened : OpenedColumns} {W : Case → Stage Draft} where
   -- none left
   pub rounds_end : {d : ℕ} {level circuits : List ℕ} {banks floors : List Float} {upsized : List ℕ} {angle : List Float} {p : Progress}
       → Rounds mode above grid supply opened d level circuits banks floors upsized angle p W → d ≡ 0
-      → Alike mode above grid supply opened (length opened.leader) (λ o. going (draft_of (rounds_case o mode above grid supply) level circuits banks floors upsized angle p)) W
+      → SameOfAll mode above grid supply opened (length opened.leader) (λ o. going (draft_of (rounds_case o mode above grid supply) level circuits banks floors upsized angle p)) W
   rounds_end {d} {level} {circuits} {banks} {floors} {upsized} {angle} {p} r h =
       ended mode above grid supply opened (length opened.leader) level circuits banks floors upsized angle p W d (omega (arith, h)) r.whole
 
@@ -96,19 +96,19 @@ module _ {mode : PlanMode} {above : ℕ} {grid : GridColumns} {supply : SupplyCo
       → buses ≡ length level
       → solved_of r (edges_in e) angle flow
       ≡ planning_on (peak_for buses opened.grounds opened.injection) (edges_in e) angle₀
-      → Solved mode above grid supply opened (left - 1) level circuits banks floors upsized p e angle flow r W
+      → SweepSolved mode above grid supply opened (left - 1) level circuits banks floors upsized p e angle flow r W
   solved_of_round {left} e rounds some size edges bus_size peak =
       record { left = _; before = _; buses = _; some = omega (arith, some); size = size; rounds = rounds; edges = edges; bus_size = bus_size; peak = peak }
 
   module _ {d : ℕ} {level circuits : List ℕ} {banks floors : List Float} {upsized : List ℕ} {p : Progress} {e : Edges} {angle flow : List Float} {r : Result (Unit {0}) Refusal}
-      (v : Solved mode above grid supply opened d level circuits banks floors upsized p e angle flow r W) where
-    pub solve_refused : {f : Refusal} → r ≡ Err f → Alike mode above grid supply opened (length opened.leader) (λ o. stopped f) W
+      (v : SweepSolved mode above grid supply opened d level circuits banks floors upsized p e angle flow r W) where
+    pub solve_refused : {f : Refusal} → r ≡ Err f → SameOfAll mode above grid supply opened (length opened.leader) (λ o. stopped f) W
     solve_refused {f} q =
         round_refused mode above grid supply opened (length opened.leader) level circuits banks floors upsized v.before p W v.left d v.some v.size v.rounds.whole
         angle flow r e v.edges v.buses v.bus_size v.peak f q
 
     pub sizes_start : {marks : List ℕ} {m : ℕ} → r ≡ no_refusal → marks ≡ no_marks m → m ≡ length level
-        → Sizes mode above grid supply opened d level e angle flow (running p) 0 circuits banks floors upsized marks (record { capacity = p.capacity; added = false; capped = false }) W
+        → SweepSizes mode above grid supply opened d level e angle flow (running p) 0 circuits banks floors upsized marks (record { capacity = p.capacity; added = false; capped = false }) W
     sizes_start {marks} {m} q clear size =
         record {
           circuits₀ = circuits;
@@ -116,16 +116,16 @@ module _ {mode : PlanMode} {above : ℕ} {grid : GridColumns} {supply : SupplyCo
           floors₀ = floors;
           upsized₀ = upsized;
           p₀ = p;
-          solved = subst (λ (x : Result (Unit {0}) Refusal). Solved mode above grid supply opened d level circuits banks floors upsized p e angle flow x W) q v;
+          solved = subst (λ (x : Result (Unit {0}) Refusal). SweepSolved mode above grid supply opened d level circuits banks floors upsized p e angle flow x W) q v;
           runs = refl;
           sized = left_start mode (length level) grid level flow circuits banks floors upsized marks p.capacity m clear size;
         }
 
   module _ {d : ℕ} {level : List ℕ} {e : Edges} {angle flow : List Float} {p : Progress} {k : ℕ} {circuits : List ℕ} {banks floors : List Float} {upsized marks : List ℕ} {t : Tally}
-      (z : Sizes mode above grid supply opened d level e angle flow p k circuits banks floors upsized marks t W) where
+      (z : SweepSizes mode above grid supply opened d level e angle flow p k circuits banks floors upsized marks t W) where
     pub sizes_turn : {circuits' : List ℕ} {banks' floors' : List Float} {upsized' marks' : List ℕ} {t' : Tally} → k < length grid.a
         → sizing_of (size_for mode (length level) grid) level circuits' banks' floors' upsized' marks' t' ≡ size_one (size_for mode (length level) grid) level flow k (sizing_of (size_for mode (length level) grid) level circuits banks floors upsized marks t)
-        → Sizes mode above grid supply opened d level e angle flow p (k + 1) circuits' banks' floors' upsized' marks' t' W
+        → SweepSizes mode above grid supply opened d level e angle flow p (k + 1) circuits' banks' floors' upsized' marks' t' W
     sizes_turn {circuits'} {banks'} {floors'} {upsized'} {marks'} {t'} h q =
         record {
           circuits₀ = z.circuits₀;
@@ -153,7 +153,7 @@ module _ {mode : PlanMode} {above : ℕ} {grid : GridColumns} {supply : SupplyCo
 
       -- a mode that does not promote is done
       pub sizes_rested : {level' : List ℕ} {banks' : List Float} {moved : ℕ} → Redrawn grid level supply marks floors banks level' banks' moved → (ltb 0 moved || t.added) ≡ false → promote mode ≡ false
-          → Alike mode above grid supply opened (length opened.leader) (λ o.
+          → SameOfAll mode above grid supply opened (length opened.leader) (λ o.
           going (draft_of (rounds_case o mode above grid supply) level' circuits banks' floors upsized angle
           (record { rounds = p.rounds; promoted = p.promoted; capacity = t.capacity; stiffening = p.stiffening; converged = not t.capped; rested = true }))) W
       sizes_rested {level'} {banks'} {moved} redrawn h m =
@@ -184,7 +184,7 @@ module _ {mode : PlanMode} {above : ℕ} {grid : GridColumns} {supply : SupplyCo
       {s : StiffeningTally} (z : Stiffens mode above grid supply opened d level g e angle flow p t i circuits banks floors upsized marks s W) where
     module _ {circuits' : List ℕ} {banks' floors' : List Float} {upsized' marks' : List ℕ} {r : Result StiffeningTally Refusal} (more : i < length opened.leader)
         (led : LedStiffened i p.rounds (solved_by g grid level opened e angle) circuits banks floors upsized marks s circuits' banks' floors' upsized' marks' r) where
-      pub stiffens_refused : {f : Refusal} → r ≡ Err f → Alike mode above grid supply opened (length opened.leader) (λ o. stopped f) W
+      pub stiffens_refused : {f : Refusal} → r ≡ Err f → SameOfAll mode above grid supply opened (length opened.leader) (λ o. stopped f) W
       stiffens_refused {f} q =
           stiffen_refused mode above grid supply opened (length opened.leader) W d level g e angle flow p t z.size i circuits banks floors upsized marks s z.whole more circuits' banks' floors' upsized' marks' r led f q
 
@@ -209,7 +209,7 @@ module _ {mode : PlanMode} {above : ℕ} {grid : GridColumns} {supply : SupplyCo
           }
 
       pub stiffens_rested : (ltb 0 moved || s.stiffened) ≡ false
-          → Alike mode above grid supply opened (length opened.leader) (λ o.
+          → SameOfAll mode above grid supply opened (length opened.leader) (λ o.
           going (draft_of (rounds_case o mode above grid supply) level' circuits banks' floors upsized angle
           (record { rounds = p.rounds; promoted = p.promoted + moved; capacity = t.capacity; stiffening = s.stiffening; converged = not s.wide && not t.capped; rested = true }))) W
       stiffens_rested h =
@@ -218,8 +218,8 @@ module _ {mode : PlanMode} {above : ℕ} {grid : GridColumns} {supply : SupplyCo
 -- ---- what the rounds leave
 pub run_of : {mode : PlanMode} {above budget : ℕ} {start : Progress} {grid : GridColumns} {level : List ℕ} {supply : SupplyColumns} {opened : OpenedColumns}
     {circuits : List ℕ} {banks floors : List Float} {upsized : List ℕ} {angle : List Float} {level' circuits' : List ℕ} {banks' floors' : List Float} {upsized' : List ℕ} {angle' : List Float}
-    {r : Result Progress Refusal} → length opened.leader ≡ length level → Kept grid level' circuits' banks'
-    → Alike mode above grid supply opened (length opened.leader) (λ o. ran_as r (rounds_case o mode above grid supply) level' circuits' banks' floors' upsized' angle')
+    {r : Result Progress Refusal} → length opened.leader ≡ length level → SweepKept grid level' circuits' banks'
+    → SameOfAll mode above grid supply opened (length opened.leader) (λ o. ran_as r (rounds_case o mode above grid supply) level' circuits' banks' floors' upsized' angle')
     (goes_on mode above grid supply opened (length opened.leader) budget level circuits banks floors upsized angle start)
     → RoundsRun mode above budget start grid level supply opened circuits banks floors upsized angle level' circuits' banks' floors' upsized' angle' r
 run_of n k h = record { ran = λ o target s e caps. h o target s (n ∙ e, caps); lines = k.lines; banked = k.banked; few = k.few }

@@ -15,7 +15,7 @@ use Rattle.casefile_defs.specs.Layout.{up_to, u8, u16, allowed}
 use Rattle.casefile_defs.specs.Tables.{Places, Outcome, sizes_ok, read_case}
 use Rattle.casefile_defs.specs.declared.Header.{Header}
 use Rattle.casefile_theorems.specs.Writer.{caps_only}
-use Rattle.casefile_theorems.specs.Cases.{Sheet, Case}
+use Rattle.casefile_theorems.specs.Cases.{Sheet, CaseTables}
 use Rattle.casefile_theorems.proofs.Theorems.{case_back, caps_legal}
 use Rattle.plan_defs.specs.Accept.{case_fault}
 use Rattle.plan_defs.proofs.Accepted.{Accepted, accepted}
@@ -77,7 +77,7 @@ module _ (i : ℕ) (below : i < all_places) where
   worked_out = ap (λ (p : Places). place_for (network_with (header_at i) p)) held ∙ (sound_at i below).place
 
   -- a file can hold it
-  pub file_case : Case (header_at i) (tables_at i)
+  pub file_case : CaseTables (header_at i) (tables_at i)
   unfolding laid_out header_of columns_of
   file_case =
       let s = sound_at i below in

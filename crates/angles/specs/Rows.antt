@@ -1,5 +1,5 @@
 -- How the work slice holds a solve: eight rows of n places, in this order: b, grounded, diag, x, r, z, d, q. What each function leaves in them.
-use Rattle.std.specs.Prelude.{ℕ, cond, ◌≡◌, List, [], ◌∷◌, Some, None, Option, get_or, set, Float}
+use Rattle.std.specs.Prelude.{ℕ, true, cond, ◌≡◌, List, [], ◌∷◌, Some, None, Option, get_or, set, Float}
 use Rattle.std.specs.Float.Ieee.{le}
 use Rattle.loops.specs.Loops.{fault}
 use Rattle.root.specs.Root.{root}
@@ -7,6 +7,7 @@ use Rattle.angles_defs.specs.Network.{Edges, Network, grounded_of, diag_of, kept
 use Rattle.angles_defs.specs.Solve.{Solved, solved, State, Next, halt, go, step, begin}
 use Rattle.angles_defs.specs.Operation.{finite_at, work_places}
 use Rattle.angles_defs.specs.declared.Solution.{Solution}
+use Rattle.angles.specs.Bounds.{Reached}
 use Rattle.angles.specs.declared.steps.Sums.{Sums}
 use Rattle.angles.specs.declared.solve.Carried.{Carried}
 use Rattle.std.specs.declared.ops.ControlFlow.{ControlFlow}
@@ -20,11 +21,11 @@ abbrev pub network_in : ℕ → Edges → List (List Float) → Network
 network_in n E R = record { n = n; edges = E; grounded = row R 1; diag = row R 2 }
 
 -- the state between two iterations, with what the code carries
-abbrev pub state_in : List (List Float) → Carried → State
-state_in R c = record { x = row R 3; r = row R 4; d = row R 6; rz = c.rz; norm = root c.rr; steps = c.steps }
+abbrev pub state_in : ℕ → List (List Float) → Carried → State
+state_in n R c = record { x = row R 3; r = row R 4; d = row R 6; rz = c.rz; norm = root (dot n (row R 4) (row R 4)); steps = c.steps }
 
-abbrev pub carried_by : Float → Float → ℕ → Carried
-carried_by rz rr steps = record { rz = rz; rr = rr; steps = steps }
+abbrev pub carried_by : Float → ℕ → Carried
+carried_by rz steps = record { rz = rz; steps = steps }
 
 -- a solution with the rows that it leaves, and an iteration
 abbrev pub solved_in : List (List Float) → Solution → Solved
@@ -33,9 +34,9 @@ solved_in R s = solved (row R 3) s.steps s.ended
 abbrev pub Iteration : Type 0
 Iteration = ControlFlow Solution Carried
 
-abbrev pub next_in : List (List Float) → Iteration → Next
-next_in R (Break s) = halt (solved_in R s)
-next_in R (Continue c) = go (state_in R c)
+abbrev pub next_in : ℕ → List (List Float) → Iteration → Next
+next_in n R (Break s) = halt (solved_in R s)
+next_in n R (Continue c) = go (state_in n R c)
 
 -- ---- what the parts of an iteration leave and answer
 pub record Preconditioned (n : ℕ) (R R' : List (List Float)) (rz : Float) : Type 0 where
@@ -53,9 +54,9 @@ next_r n alpha R = back n (row R 4) alpha (row R 7)
 abbrev pub next_z : ℕ → Float → List (List Float) → List Float
 next_z n alpha R = shares n (row R 1) (row R 2) (next_r n alpha R)
 
-pub record ResidualStep (n : ℕ) (alpha : Float) (R R' : List (List Float)) (sums : Sums) : Type 0 where
+pub record ResidualStep (n : ℕ) (alpha limit : Float) (R R' : List (List Float)) (sums : Sums) : Type 0 where
   pub left : R' ≡ set (set R 4 (next_r n alpha R)) 5 (next_z n alpha R)
-  pub square : sums.rr ≡ dot n (next_r n alpha R) (next_r n alpha R)
+  pub reached : sums.far ≡ true → Reached n limit (next_r n alpha R)
   pub shared : sums.rz ≡ dot n (next_r n alpha R) (next_z n alpha R)
 
 pub record AngleStep (n : ℕ) (alpha : Float) (R R' : List (List Float)) : Type 0 where
@@ -70,11 +71,11 @@ within norm bound = cond (le norm bound) (Some norm) None
 
 -- ---- an iteration, and what stands before the first: the network stays
 pub record Stepped (n : ℕ) (E : Edges) (bound : Float) (R : List (List Float)) (c : Carried) (R' : List (List Float)) (i : Iteration) : Type 0 where
-  pub next : next_in R' i ≡ step (network_in n E R) bound (state_in R c)
+  pub next : next_in n R' i ≡ step (network_in n E R) bound (state_in n R c)
   pub same : network_in n E R' ≡ network_in n E R
 
 pub record Begun (n : ℕ) (E : Edges) (bound : Float) (R R' : List (List Float)) (i : Iteration) : Type 0 where
-  pub next : next_in R' i ≡ begin (network_in n E R) bound (row R 0) (row R 3)
+  pub next : next_in n R' i ≡ begin (network_in n E R) bound (row R 0) (row R 3)
   pub same : network_in n E R' ≡ network_in n E R
 
 -- ---- the operation: the rows that a solve begins with, and what is handed out

@@ -1,9 +1,11 @@
 // The solve, over the rows of the work slice w: `dc_angles_cg` from its right side, its network and its grounded guess on.
-ghost use Rattle.std.specs.Prelude.{◌≡◌, ◌*◌, ◌^◌, ◌<◌, ◌≤◌, length};
+ghost use Rattle.std.specs.Prelude.{true, ◌≡◌, ◌*◌, ◌^◌, ◌<◌, ◌≤◌, length};
 ghost use Rattle.loops.specs.Bounds.{most_buses};
 ghost use Rattle.loops.specs.Parts.{rows};
 ghost use Rattle.root.specs.Root.{root};
 ghost use Rattle.angles_defs.specs.Solve.{go, run, max_iterations, solve_from};
+ghost use Rattle.angles_defs.specs.Network.{dot};
+ghost use Rattle.angles.specs.Bounds.{Reached};
 ghost use Rattle.angles.specs.Slices.{edges_in};
 ghost use Rattle.angles.specs.Rows.{row, network_in, state_in, within, solved_in, Stepped, Begun};
 
@@ -20,11 +22,10 @@ use std::ops::ControlFlow;
 // The share of the right side's norm at which the residual's settles the solve.
 const SETTLED_SHARE: f64 = 1e-11;
 
-// What one iteration hands to the next: r · z, r · r, and how often x was moved.
+// What one iteration hands to the next: r · z, and how often x was moved.
 #[derive(Clone, Copy)]
 struct Carried {
     rz: f64,
-    rr: f64,
     steps: usize,
 }
 
@@ -41,6 +42,17 @@ fn judge(rr: f64, bound: Bound) -> Option<f64>
     } else {
         None
     }
+}
+
+// The norm of the residual, where it is within the bound: not worked out where a place that reaches the limit tells that it is not.
+fn judge_residual(w: &[f64], n: usize, bound: Bound, far: bool) -> Option<f64>
+    requires { (length w.now ≡ 8 * n) × (far ≡ true → Reached n bound.limit (row (rows 8 n w.now) 4)) }
+    ensures { result ≡ within (root (dot n (row (rows 8 n w.now) 4) (row (rows 8 n w.now) 4))) bound.bound }
+{
+    if far {
+        return None;
+    }
+    judge(dot(w, n, R * n, R * n), bound)
 }
 
 // One iteration: what it hands to the next, or the solution where it ends.
@@ -64,8 +76,8 @@ fn step(
         });
     }
     let alpha = rz / dq;
-    let sums = residual_step(w, n, alpha);
-    if let Some(norm) = judge(sums.rr, bound) {
+    let sums = residual_step(w, n, alpha, bound.limit);
+    if let Some(norm) = judge_residual(w, n, bound, sums.far) {
         angle_step(w, n, alpha);
         return ControlFlow::Break(Solution {
             steps: steps + 1,
@@ -75,7 +87,6 @@ fn step(
     direction_step(w, n, alpha, sums.rz / rz);
     ControlFlow::Continue(Carried {
         rz: sums.rz,
-        rr: sums.rr,
         steps: steps + 1,
     })
 }
@@ -89,10 +100,11 @@ fn iterate(grid: &Grid, w: &mut [f64], bound: Bound, first: Carried) -> Solution
     requires { (length w.old ≡ 8 * grid.now.n) × (grid.now.n ≤ most_buses) × (first.steps ≡ 0) }
     ensures { solved_in (rows 8 grid.now.n w.new) result
         ≡ run (network_in grid.now.n (edges_in grid.now) (rows 8 grid.now.n w.old)) bound.bound (max_iterations grid.now.n)
-        (go (state_in (rows 8 grid.now.n w.old) first)) }
+        (go (state_in grid.now.n (rows 8 grid.now.n w.old) first)) }
 {
+    let n = grid.n;
     let mut carried = first;
-    for _turn in 0..STEPS_PER_BUS * grid.n + MORE_STEPS {
+    for _turn in 0..STEPS_PER_BUS * n + MORE_STEPS {
         match step(grid, w, bound, carried) {
             ControlFlow::Break(solution) => return solution,
             ControlFlow::Continue(next) => carried = next,
@@ -100,7 +112,7 @@ fn iterate(grid: &Grid, w: &mut [f64], bound: Bound, first: Carried) -> Solution
     }
     Solution {
         steps: carried.steps,
-        ended: Ended::StepsSpent(root::sqrt(carried.rr)),
+        ended: Ended::StepsSpent(root::sqrt(dot(w, n, R * n, R * n))),
     }
 }
 
@@ -120,7 +132,7 @@ fn begin(grid: &Grid, w: &mut [f64], bound: Bound) -> ControlFlow<Solution, Carr
     }
     let rz = precondition(w, n);
     copy(w, n, Z * n, D * n);
-    ControlFlow::Continue(Carried { rz, rr, steps: 0 })
+    ControlFlow::Continue(Carried { rz, steps: 0 })
 }
 
 // The solve: zeros where the norm of the right side comes to zero, whatever the guess.

@@ -1,6 +1,8 @@
 // What an iteration does to the rows of the work slice w, each in one pass. Each call asks for the slice's length: of a struct of the slice
 // and n whose ghost field is that length, tried, each method had to promise that it still holds the same slice and the same n.
 ghost use Rattle.std.specs.Prelude.{◌≡◌, ◌*◌, length};
+ghost use Rattle.std.specs.Float.Ieee.{le};
+ghost use Rattle.loops.specs.Figures.{magnitude};
 ghost use Rattle.loops.specs.Parts.{rows};
 ghost use Rattle.angles_defs.specs.Network.{share_at};
 ghost use Rattle.angles.specs.Rows.{Preconditioned, Residual, ResidualStep, AngleStep, DirectionStep};
@@ -66,35 +68,43 @@ pub fn residual(w: &mut [f64], n: usize) -> f64
     rr
 }
 
-// The sums that end an iteration: r · r and r · z.
+// What ends an iteration: whether a place of r reaches the limit, and r · z.
 #[derive(Clone, Copy)]
 pub struct Sums {
-    pub rr: f64,
+    pub far: bool,
     pub rz: f64,
 }
 
-// r -= alpha q, z = M r; answers r · r and r · z, which are added up side by side.
+// Whether a figure's size reaches a limit.
+fn reaches(limit: f64, r: f64) -> bool
+    ensures { result ≡ le limit (magnitude r) }
+{
+    limit <= loops::magnitude(r)
+}
+
+// r -= alpha q, z = M r; answers r · z. Of r · r it says only whether one place of r alone, by its size, makes it too great to be settled, since
+// products as small as its last ones are slow.
 #[tactic(auto, using(loops::proofs::Parts::tab_start, loops::proofs::Totals::sum_start))]
-pub fn residual_step(w: &mut [f64], n: usize, alpha: f64) -> Sums
+pub fn residual_step(w: &mut [f64], n: usize, alpha: f64, limit: f64) -> Sums
     requires { length w.old ≡ 8 * n }
-    ensures { ResidualStep n alpha (rows 8 n w.old) (rows 8 n w.new) result }
+    ensures { ResidualStep n alpha limit (rows 8 n w.old) (rows 8 n w.new) result }
 {
     let grounded = GROUNDED * n;
     let diag = DIAG * n;
     let r = R * n;
     let z = Z * n;
     let q = Q * n;
-    let mut rr = 0.0;
+    let mut far = false;
     let mut rz = 0.0;
     for i in 0..n {
         let ri = w[r + i] - alpha * w[q + i];
         let zi = share(w[grounded + i], w[diag + i], ri);
         w[r + i] = ri;
         w[z + i] = zi;
-        rr += ri * ri;
+        far |= reaches(limit, ri);
         rz += ri * zi;
     }
-    Sums { rr, rz }
+    Sums { far, rz }
 }
 
 // x += alpha d

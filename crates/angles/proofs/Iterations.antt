@@ -2,7 +2,7 @@
 -- On eight named rows each call sets one or two, so that the equations of the calls join the two sides.
 use Prim.Native.Nat.{ℕ, zero, suc, ◌+◌, ◌-◌, ◌<◌, ◌≤◌}
 use mathlib.Core.Bool.{Bool, true, false, cond}
-use mathlib.Core.Path.{◌≡◌, refl, sym, ap, ◌∙◌, subst}
+use mathlib.Core.Path.{◌≡◌, refl, sym, ap, ◌∙◌}
 use mathlib.Core.List.{List, [], ◌∷◌}
 use native.Mathlib.Omega.{arith}
 use lib.Ieee.{Float, le, eq}
@@ -15,9 +15,7 @@ use Rattle.angles_defs.specs.Solve.{Solved, solved, State, Next, halt, go, step,
 use Rattle.angles_defs.proofs.Solves.{whichever}
 use Rattle.angles_defs.specs.declared.Ended.TheVariants.{Settled, NoDescent, StepsSpent}
 use Rattle.angles_defs.specs.declared.Solution.{Solution}
-use Rattle.angles.specs.Bounds.{Reached}
 use Rattle.angles.specs.Rows.{row, network_in, state_in, carried_by, solved_in, Iteration, next_in, within, Stepped, Begun, Preconditioned, Residual, next_r, next_z, ResidualStep, AngleStep, DirectionStep}
-use Rattle.angles.specs.declared.steps.Sums.{Sums}
 use Rattle.angles.specs.declared.solve.Carried.{Carried}
 use Rattle.std.specs.declared.ops.ControlFlow.TheVariants.{Break, Continue}
 use Rattle.std.specs.Prelude.{Some, None}
@@ -76,7 +74,7 @@ module _ (n : ℕ) (E : Edges) (bound : Float) (b g c x r z d q : List Float) wh
     unfolding step
     step_none h = record { next = cc (A.left, A.answered, h); same = cc A.left }
 
-    module _ (limit : Float) (R₂ : List (List Float)) (sums : Sums) (down : le dq nought ≡ false) (M : ResidualStep n (over k.rz dq) limit R₁ R₂ sums) where
+    module _ (R₂ : List (List Float)) (rz : Float) (down : le dq nought ≡ false) (M : ResidualStep n (over k.rz dq) R₁ R₂ rz) where
       abbrev alpha : Float
       alpha = over k.rz dq
 
@@ -95,15 +93,11 @@ module _ (n : ℕ) (E : Edges) (bound : Float) (b g c x r z d q : List Float) wh
       e₂ : R₂ ≡ b ∷ g ∷ c ∷ x ∷ r' ∷ z' ∷ d ∷ y ∷ []
       e₂ = M.left ∙ ap (λ (S : List (List Float)). set (set S 4 (next_r n alpha S)) 5 (next_z n alpha S)) A.left
 
-      -- what the call of `judge_residual` is of
-      pub reached : sums.far ≡ true → Reached n limit (row R₂ 4)
-      reached h = subst (Reached n limit) (ap (λ (S : List (List Float)). next_r n alpha S) A.left ∙ sym (ap (λ (S : List (List Float)). row S 4) e₂)) (M.reached h)
-
       square : dot n (row R₂ 4) (row R₂ 4) ≡ dot n r' r'
       square = ap (λ (S : List (List Float)). dot n (row S 4) (row S 4)) e₂
 
-      erz : sums.rz ≡ dot n r' z'
-      erz = M.shared ∙ ap (λ (S : List (List Float)). dot n (next_r n alpha S) (next_z n alpha S)) A.left
+      erz : rz ≡ dot n r' z'
+      erz = M.answered ∙ ap (λ (S : List (List Float)). dot n (next_r n alpha S) (next_z n alpha S)) A.left
 
       pub step_settled : (R₃ : List (List Float)) (norm : Float) → Some norm ≡ within (root (dot n (row R₂ 4) (row R₂ 4))) bound → AngleStep n alpha R₂ R₃
           → Stepped n E bound R₀ k R₃ (Break (record { steps = k.steps + 1; ended = Settled norm }))
@@ -117,16 +111,16 @@ module _ (n : ℕ) (E : Edges) (bound : Float) (b g c x r z d q : List Float) wh
             same = ap (λ (S : List (List Float)). network_in n E S) e₃;
           }
 
-      pub step_more : (R₃ : List (List Float)) → None ≡ within (root (dot n (row R₂ 4) (row R₂ 4))) bound → DirectionStep n alpha (over sums.rz k.rz) R₂ R₃
-          → Stepped n E bound R₀ k R₃ (Continue (carried_by sums.rz (k.steps + 1)))
-      step_more R₃ j D =
-          let beta : Float = over sums.rz k.rz in
+      pub step_more : (R₃ : List (List Float)) (look : ℕ) → None ≡ within (root (dot n (row R₂ 4) (row R₂ 4))) bound → DirectionStep n alpha (over rz k.rz) R₂ R₃
+          → Stepped n E bound R₀ k R₃ (Continue (carried_by rz look (k.steps + 1)))
+      step_more R₃ look j D =
+          let beta : Float = over rz k.rz in
           let e₃ : R₃ ≡ b ∷ g ∷ c ∷ x' ∷ r' ∷ z' ∷ along n z' beta d ∷ y ∷ [] =
           D.left ∙ ap (λ (S : List (List Float)). set (set S 3 (along n (row S 3) alpha (row S 6))) 6 (along n (row S 5) beta (row S 6))) e₂ in
           record {
             next =
-                ap (λ (S : List (List Float)). go (state_in n S (carried_by sums.rz (k.steps + 1)))) e₃
-                ∙ goes_on_lem N bound (state_in n R₀ k) y x' r' z' dq (dot n r' r') sums.rz refl A.answered down refl refl refl
+                ap (λ (S : List (List Float)). go (state_in n S (carried_by rz look (k.steps + 1)))) e₃
+                ∙ goes_on_lem N bound (state_in n R₀ k) y x' r' z' dq (dot n r' r') rz refl A.answered down refl refl refl
                 (ap (λ (v : Float). le (root v) bound) (sym square) ∙ far (root (dot n (row R₂ 4) (row R₂ 4))) bound j) refl erz;
             same = ap (λ (S : List (List Float)). network_in n E S) e₃;
           }
@@ -138,9 +132,9 @@ module _ (n : ℕ) (E : Edges) (bound : Float) (b g c x r z d q : List Float) wh
         let w = near (root rr) bound norm j in
         record { next = cc (A.left, D.left, D.answered, w.0, w.1); same = cc (A.left, D.left) }
 
-    pub begin_more : (R₃ R₄ : List (List Float)) (rz : Float) → None ≡ within (root rr) bound → Preconditioned n R₂ R₃ rz → R₄ ≡ set R₃ 6 (row R₃ 5)
-        → Begun n E bound R₀ R₄ (Continue (carried_by rz 0))
-    begin_more R₃ R₄ rz j P C =
+    pub begin_more : (R₃ R₄ : List (List Float)) (rz : Float) (look : ℕ) → None ≡ within (root rr) bound → Preconditioned n R₂ R₃ rz → R₄ ≡ set R₃ 6 (row R₃ 5)
+        → Begun n E bound R₀ R₄ (Continue (carried_by rz look 0))
+    begin_more R₃ R₄ rz look j P C =
         let r' : List Float = less n b (apply N x) in
         let z' : List Float = shares n g c r' in
         let e₂ : R₂ ≡ b ∷ g ∷ c ∷ x ∷ r' ∷ z ∷ d ∷ q ∷ [] = D.left ∙ ap (λ (S : List (List Float)). set S 4 (less n (row S 0) (row S 4))) A.left in
@@ -150,7 +144,7 @@ module _ (n : ℕ) (E : Edges) (bound : Float) (b g c x r z d q : List Float) wh
         let erz : rz ≡ dot n r' z' = P.answered ∙ ap (λ (S : List (List Float)). dot n (row S 4) (shares n (row S 1) (row S 2) (row S 4))) e₂ in
         record {
           next =
-              ap (λ (S : List (List Float)). go (state_in n S (carried_by rz 0))) e₄
+              ap (λ (S : List (List Float)). go (state_in n S (carried_by rz look 0))) e₄
               ∙ begins N bound b x r' z' (dot n r' r') rz refl refl (ap (λ (v : Float). le (root v) bound) (sym err) ∙ far (root rr) bound j) refl erz;
           same = ap (λ (S : List (List Float)). network_in n E S) e₄;
         }

@@ -1,26 +1,30 @@
 -- A sum of squares with one square from which on every root is above the bound: it is a NaN or at least that square, and so its root is not within the bound.
 -- No square has a sign, so that each sum is a NaN or at least each of its terms.
 use Prim.Native.Nat.{ℕ, zero, suc, ◌+◌, ◌*◌, ◌<◌}
-use mathlib.Core.Bool.{Bool, true, false, cond, ◌&&◌, ◌||◌, true≢false}
+use mathlib.Core.Bool.{Bool, true, false, cond, ◌&&◌}
 use mathlib.Core.Logic.{⊎_elim}
 use mathlib.Core.Path.{◌≡◌, refl, sym, ap, ◌∙◌}
 use mathlib.Core.List.{List}
 use native.Mathlib.Nat.{add_comm, mul_comm, eq-or-lt_of_le}
 use native.Mathlib.Omega.{arith}
-use lib.Dec.{T}
+use lib.Dec.{T, lit<}
 use lib.IntN.{ℤ}
 use lib.Ieee.{Float, nan, inf, fin, binary64, up, down, fits, round, neg, add, sum, mul, lt, eq, le, of_bits}
 use lib.Ieee.Fits.{add-fits, mul-fits}
 use lib.Ieee.Positive.{positive, above, above_of_le, mul_mono}
 use Rattle.loops.specs.Figures.{at, plus, times, nought, magnitude}
 use Rattle.loops.specs.Loops.{sum_to}
-use Rattle.loops.proofs.Bools.{is, holds, no, both, either}
+use Rattle.loops.specs.Parts.{rows}
+use Rattle.loops.proofs.Bools.{is, holds, no, both}
+use Rattle.loops.proofs.Parts.{get_part}
+use Rattle.loops.proofs.Rows.{row_of}
 use Rattle.loops.proofs.Order.{real, le_through}
 use Rattle.loops.proofs.Rounded.{round_is}
 use Rattle.loops.proofs.Sums.{unsigned, infinity_above, plus_unsigned, plus_grows}
 use Rattle.root.specs.Root.{root}
 use Rattle.angles_defs.specs.Network.{product, dot}
 use Rattle.angles.specs.Bounds.{SurelyBeyond, SurelyFar, Reached}
+use Rattle.angles.specs.Rows.{row}
 use Rattle.angles.proofs.Beyond.{bound_positive, beyond_square, root_beyond}
 
 -- ---- a square, and a sum of figures without a sign
@@ -131,8 +135,8 @@ square_beyond n r bound i l s =
     go (inf t) f h = SurelyBeyond.far s (inf t) f (h tt)
     go (fin t m e) f h = SurelyBeyond.far s (fin t m e) f (h tt)
 
-pub far_residual : (n : ℕ) (limit bound : Float) (r : List Float) → SurelyFar limit bound → Reached n limit r → le (root (dot n r r)) bound ≡ false
-far_residual n limit bound r F R = square_beyond n r bound R.place R.below (F.far (at r R.place) R.reaches)
+pub far_residual : (n : ℕ) (limit bound : Float) (r : List Float) (place : ℕ) → SurelyFar limit bound → Reached n limit r place → le (root (dot n r r)) bound ≡ false
+far_residual n limit bound r place F R = square_beyond n r bound place R.below (F.far (at r place) R.reaches)
 
 -- ---- a limit: a figure above zero whose square is one from which on every root is above the bound
 same_square : (x : Float) → times (neg x) (neg x) ≡ times x x
@@ -194,20 +198,6 @@ surely_far limit bound p s =
       };
     }
 
--- ---- a loop that looks for a place that reaches the limit
-pub reached_start : (limit : Float) (r : List Float) → false ≡ true → Reached 0 limit r
-reached_start limit r h = absurd (true≢false (sym h))
-
-pub reached_turn : (i : ℕ) (limit v : Float) (r : List Float) (seen is_one : Bool) → (seen ≡ true → Reached i limit r) → v ≡ at r i → is_one ≡ le limit (magnitude v)
-    → (seen || is_one) ≡ true → Reached (i + 1) limit r
-reached_turn i limit v r seen is_one before e t h = ⊎_elim earlier here (either seen is_one h)
-  where
-    earlier : seen ≡ true → Reached (i + 1) limit r
-    earlier s = let p = before s in let l = p.below in record { place = p.place; below = omega arith; reaches = p.reaches }
-
-    here : is_one ≡ true → Reached (i + 1) limit r
-    here s = record { place = i; below = omega arith; reaches = ap (λ (x : Float). le limit (magnitude x)) (sym e) ∙ sym t ∙ s }
-
 -- ---- a NaN, which nothing reaches
 pub nothing_far : (bound : Float) → SurelyFar nan bound
 unfolding lt eq le
@@ -224,3 +214,10 @@ both_known bound twice above f h =
     let e = both (lt nought bound) (lt nought twice) d.0 in
     let s = beyond_square (times twice twice) bound (mul-fits binary64 twice twice) e.0 (root_beyond above (times twice twice) bound f (mul-fits binary64 twice twice) e.0 d.1 b.1 a.1) in
     (s, surely_far twice bound e.1 s)
+
+-- ---- a place of the residual's row, as it stands in the slice
+pub reached_row : (n : ℕ) (w : List Float) (limit : Float) (place : ℕ) (size : Float) → place < n → size ≡ magnitude (at w (4 * n + place)) → le limit size ≡ true
+    → Reached n limit (row (rows 8 n w) 4) place
+reached_row n w limit place size l e h =
+    let v : at (row (rows 8 n w) 4) place ≡ at w (4 * n + place) = ap (λ (r : List Float). at r place) (sym (row_of 8 n 4 (4 * n) w refl (lit< tt))) ∙ get_part (4 * n) n w place nan l in
+    record { below = l; reaches = ap (λ (x : Float). le limit (magnitude x)) v ∙ ap (le limit) (sym e) ∙ h }

@@ -1,7 +1,6 @@
 -- What a function leaves in the slice, as rows: a part that was put at a row's offset is that row set, and the other rows stay.
 -- Each law takes what the loop shows of the slice, and speaks of the eight rows.
 use Prim.Native.Nat.{ℕ, ◌*◌, ◌<◌}
-use mathlib.Core.Bool.{true}
 use mathlib.Core.Path.{◌≡◌, refl, sym, ap, ◌∙◌}
 use mathlib.Core.List.{List, []}
 use native.Mathlib.Omega.{arith}
@@ -15,10 +14,8 @@ use Rattle.loops.proofs.Rows.{length_rows, row_of, rows_wrote}
 use Rattle.root.specs.Root.{root}
 use Rattle.angles_defs.specs.Network.{Edges, scatter, kept, apply, shares, dot, along, back, less, zeros}
 use Rattle.angles_defs.proofs.Vectors.{length_zeros, length_kept, length_shares, length_along, length_back, length_less}
-use Rattle.angles.specs.Bounds.{Reached}
 use Rattle.angles.specs.Slices.{Wrote}
 use Rattle.angles.specs.Rows.{row, network_in, Preconditioned, Residual, next_r, next_z, ResidualStep, AngleStep, DirectionStep}
-use Rattle.angles.specs.declared.steps.Sums.{Sums}
 
 -- row j set to v
 pub record Set (R R' : List (List Float)) (j : ℕ) (v : List Float) (sum answer : Float) : Type 0 where
@@ -65,13 +62,12 @@ module _ (n : ℕ) (w w' : List Float) (len : length w ≡ 8 * n) where
   abbrev z' : Float → List Float
   z' alpha = next_z n alpha (rows 8 n w)
 
-  pub residual_step_rows : (alpha limit : Float) (sums : Sums)
+  pub residual_step_rows : (alpha rz : Float)
       → w' ≡ put (put w (4 * n) (back n (part (4 * n) n w) alpha (part (7 * n) n w))) (5 * n)
       (shares n (part (1 * n) n w) (part (2 * n) n w) (back n (part (4 * n) n w) alpha (part (7 * n) n w)))
-      → (sums.far ≡ true → Reached n limit (back n (part (4 * n) n w) alpha (part (7 * n) n w)))
-      → sums.rz ≡ dot n (back n (part (4 * n) n w) alpha (part (7 * n) n w)) (shares n (part (1 * n) n w) (part (2 * n) n w) (back n (part (4 * n) n w) alpha (part (7 * n) n w)))
-      → ResidualStep n alpha limit (rows 8 n w) (rows 8 n w') sums
-  residual_step_rows alpha limit sums e s t =
+      → rz ≡ dot n (back n (part (4 * n) n w) alpha (part (7 * n) n w)) (shares n (part (1 * n) n w) (part (2 * n) n w) (back n (part (4 * n) n w) alpha (part (7 * n) n w)))
+      → ResidualStep n alpha (rows 8 n w) (rows 8 n w') rz
+  residual_step_rows alpha rz e t =
       let g = row_of 8 n 1 (1 * n) w refl (lit< tt) in
       let c = row_of 8 n 2 (2 * n) w refl (lit< tt) in
       let r = row_of 8 n 4 (4 * n) w refl (lit< tt) in
@@ -82,8 +78,7 @@ module _ (n : ℕ) (w w' : List Float) (len : length w ≡ 8 * n) where
         left =
             rows_wrote nan 8 n 5 (5 * n) (put w (4 * n) (r' alpha)) w' (z' alpha) refl (lit< tt) long (length_shares n _ _ _) (rw (g, c, r, q) at e)
             ∙ ap (λ (S : List (List Float)). set S 5 (z' alpha)) (rows_wrote nan 8 n 4 (4 * n) w (put w (4 * n) (r' alpha)) (r' alpha) refl (lit< tt) len lR refl);
-        reached = λ h. rw (sym r, sym q) (s h);
-        shared = t ∙ rw (g, c, r, q);
+        answered = t ∙ rw (g, c, r, q);
       }
 
   abbrev x' : Float → List Float

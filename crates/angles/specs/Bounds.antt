@@ -13,8 +13,7 @@ pub record SurelyBeyond (beyond bound : Float) : Type 0 where
 pub record SurelyFar (limit bound : Float) : Type 0 where
   pub far : (x : Float) → le limit (magnitude x) ≡ true → SurelyBeyond (times x x) bound
 
--- one of the first n places of r reaches `limit`
-pub record Reached (n : ℕ) (limit : Float) (r : List Float) : Type 0 where
-  pub place : ℕ
+-- one of the first n places of r, which reaches `limit`
+pub record Reached (n : ℕ) (limit : Float) (r : List Float) (place : ℕ) : Type 0 where
   pub below : place < n
   pub reaches : le limit (magnitude (at r place)) ≡ true

@@ -1,5 +1,5 @@
 -- How the work slice holds a solve: eight rows of n places, in this order: b, grounded, diag, x, r, z, d, q. What each function leaves in them.
-use Rattle.std.specs.Prelude.{ℕ, true, cond, ◌≡◌, List, [], ◌∷◌, Some, None, Option, get_or, set, Float}
+use Rattle.std.specs.Prelude.{ℕ, cond, ◌≡◌, List, [], ◌∷◌, Some, None, Option, get_or, set, Float}
 use Rattle.std.specs.Float.Ieee.{le}
 use Rattle.loops.specs.Loops.{fault}
 use Rattle.root.specs.Root.{root}
@@ -7,8 +7,6 @@ use Rattle.angles_defs.specs.Network.{Edges, Network, grounded_of, diag_of, kept
 use Rattle.angles_defs.specs.Solve.{Solved, solved, State, Next, halt, go, step, begin}
 use Rattle.angles_defs.specs.Operation.{finite_at, work_places}
 use Rattle.angles_defs.specs.declared.Solution.{Solution}
-use Rattle.angles.specs.Bounds.{Reached}
-use Rattle.angles.specs.declared.steps.Sums.{Sums}
 use Rattle.angles.specs.declared.solve.Carried.{Carried}
 use Rattle.std.specs.declared.ops.ControlFlow.{ControlFlow}
 use Rattle.std.specs.declared.ops.ControlFlow.TheVariants.{Break, Continue}
@@ -24,8 +22,8 @@ network_in n E R = record { n = n; edges = E; grounded = row R 1; diag = row R 2
 abbrev pub state_in : ℕ → List (List Float) → Carried → State
 state_in n R c = record { x = row R 3; r = row R 4; d = row R 6; rz = c.rz; norm = root (dot n (row R 4) (row R 4)); steps = c.steps }
 
-abbrev pub carried_by : Float → ℕ → Carried
-carried_by rz steps = record { rz = rz; steps = steps }
+abbrev pub carried_by : Float → ℕ → ℕ → Carried
+carried_by rz look steps = record { rz = rz; look = look; steps = steps }
 
 -- a solution with the rows that it leaves, and an iteration
 abbrev pub solved_in : List (List Float) → Solution → Solved
@@ -54,10 +52,9 @@ next_r n alpha R = back n (row R 4) alpha (row R 7)
 abbrev pub next_z : ℕ → Float → List (List Float) → List Float
 next_z n alpha R = shares n (row R 1) (row R 2) (next_r n alpha R)
 
-pub record ResidualStep (n : ℕ) (alpha limit : Float) (R R' : List (List Float)) (sums : Sums) : Type 0 where
+pub record ResidualStep (n : ℕ) (alpha : Float) (R R' : List (List Float)) (rz : Float) : Type 0 where
   pub left : R' ≡ set (set R 4 (next_r n alpha R)) 5 (next_z n alpha R)
-  pub reached : sums.far ≡ true → Reached n limit (next_r n alpha R)
-  pub shared : sums.rz ≡ dot n (next_r n alpha R) (next_z n alpha R)
+  pub answered : rz ≡ dot n (next_r n alpha R) (next_z n alpha R)
 
 pub record AngleStep (n : ℕ) (alpha : Float) (R R' : List (List Float)) : Type 0 where
   pub left : R' ≡ set R 3 (along n (row R 3) alpha (row R 6))

@@ -1,10 +1,11 @@
 // The solve, over the rows of the work slice w: `dc_angles_cg` from its right side, its network and its grounded guess on.
-ghost use Rattle.std.specs.Prelude.{true, ◌≡◌, ◌*◌, ◌^◌, ◌<◌, ◌≤◌, length};
+ghost use Rattle.std.specs.Prelude.{◌≡◌, ◌*◌, ◌^◌, ◌<◌, ◌≤◌, length};
 ghost use Rattle.loops.specs.Bounds.{most_buses};
 ghost use Rattle.loops.specs.Parts.{rows};
 ghost use Rattle.root.specs.Root.{root};
 ghost use Rattle.angles_defs.specs.Solve.{go, run, max_iterations, solve_from};
 ghost use Rattle.angles_defs.specs.Network.{dot};
+ghost use Rattle.std.specs.Option.{IfSome};
 ghost use Rattle.angles.specs.Bounds.{Reached};
 ghost use Rattle.angles.specs.Slices.{edges_in};
 ghost use Rattle.angles.specs.Rows.{row, network_in, state_in, within, solved_in, Stepped, Begun};
@@ -13,7 +14,8 @@ use crate::bound::{Bound, bound_of};
 use crate::grid::Grid;
 use crate::network::apply;
 use crate::steps::{
-    D, GROUNDED, Q, R, X, Z, angle_step, direction_step, precondition, residual, residual_step,
+    D, GROUNDED, Q, R, X, Z, angle_step, direction_step, far_place, precondition, residual,
+    residual_step,
 };
 use crate::vectors::{clear, copy, dot};
 use angles_defs::{Ended, Solution};
@@ -22,10 +24,11 @@ use std::ops::ControlFlow;
 // The share of the right side's norm at which the residual's settles the solve.
 const SETTLED_SHARE: f64 = 1e-11;
 
-// What one iteration hands to the next: r · z, and how often x was moved.
+// What one iteration hands to the next: r · z, the place of r to look at first, and how often x was moved.
 #[derive(Clone, Copy)]
 struct Carried {
     rz: f64,
+    look: usize,
     steps: usize,
 }
 
@@ -44,15 +47,16 @@ fn judge(rr: f64, bound: Bound) -> Option<f64>
     }
 }
 
-// The norm of the residual, where it is within the bound: not worked out where a place that reaches the limit tells that it is not.
-fn judge_residual(w: &[f64], n: usize, bound: Bound, far: bool) -> Option<f64>
-    requires { (length w.now ≡ 8 * n) × (far ≡ true → Reached n bound.limit (row (rows 8 n w.now) 4)) }
+// The norm of the residual, where it is within the bound. One place that reaches the limit tells that it is not: then r · r is not worked
+// out, of which the small products are slow.
+fn judge_residual(w: &[f64], n: usize, bound: Bound, far: Option<usize>) -> Option<f64>
+    requires { (length w.now ≡ 8 * n) × IfSome far (λ place. Reached n bound.limit (row (rows 8 n w.now) 4) place) }
     ensures { result ≡ within (root (dot n (row (rows 8 n w.now) 4) (row (rows 8 n w.now) 4))) bound.bound }
 {
-    if far {
-        return None;
+    match far {
+        Some(_) => None,
+        None => judge(dot(w, n, R * n, R * n), bound),
     }
-    judge(dot(w, n, R * n, R * n), bound)
 }
 
 // One iteration: what it hands to the next, or the solution where it ends.
@@ -76,17 +80,19 @@ fn step(
         });
     }
     let alpha = rz / dq;
-    let sums = residual_step(w, n, alpha, bound.limit);
-    if let Some(norm) = judge_residual(w, n, bound, sums.far) {
+    let next_rz = residual_step(w, n, alpha);
+    let far = far_place(w, n, bound.limit, carried.look);
+    if let Some(norm) = judge_residual(w, n, bound, far) {
         angle_step(w, n, alpha);
         return ControlFlow::Break(Solution {
             steps: steps + 1,
             ended: Ended::Settled(norm),
         });
     }
-    direction_step(w, n, alpha, sums.rz / rz);
+    direction_step(w, n, alpha, next_rz / rz);
     ControlFlow::Continue(Carried {
-        rz: sums.rz,
+        rz: next_rz,
+        look: far.unwrap_or(0),
         steps: steps + 1,
     })
 }
@@ -132,7 +138,11 @@ fn begin(grid: &Grid, w: &mut [f64], bound: Bound) -> ControlFlow<Solution, Carr
     }
     let rz = precondition(w, n);
     copy(w, n, Z * n, D * n);
-    ControlFlow::Continue(Carried { rz, steps: 0 })
+    ControlFlow::Continue(Carried {
+        rz,
+        look: 0,
+        steps: 0,
+    })
 }
 
 // The solve: zeros where the norm of the right side comes to zero, whatever the guess.

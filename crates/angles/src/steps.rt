@@ -1,11 +1,13 @@
 // What an iteration does to the rows of the work slice w, each in one pass. Each call asks for the slice's length: of a struct of the slice
 // and n whose ghost field is that length, tried, each method had to promise that it still holds the same slice and the same n.
 ghost use Rattle.std.specs.Prelude.{◌≡◌, ◌*◌, length};
+ghost use Rattle.std.specs.Option.{IfSome};
 ghost use Rattle.std.specs.Float.Ieee.{le};
 ghost use Rattle.loops.specs.Figures.{magnitude};
 ghost use Rattle.loops.specs.Parts.{rows};
 ghost use Rattle.angles_defs.specs.Network.{share_at};
-ghost use Rattle.angles.specs.Rows.{Preconditioned, Residual, ResidualStep, AngleStep, DirectionStep};
+ghost use Rattle.angles.specs.Bounds.{Reached};
+ghost use Rattle.angles.specs.Rows.{row, Preconditioned, Residual, ResidualStep, AngleStep, DirectionStep};
 
 // The rows, by number. The right side is row 0.
 pub const GROUNDED: usize = 1;
@@ -68,43 +70,26 @@ pub fn residual(w: &mut [f64], n: usize) -> f64
     rr
 }
 
-// What ends an iteration: whether a place of r reaches the limit, and r · z.
-#[derive(Clone, Copy)]
-pub struct Sums {
-    pub far: bool,
-    pub rz: f64,
-}
-
-// Whether a figure's size reaches a limit.
-fn reaches(limit: f64, r: f64) -> bool
-    ensures { result ≡ le limit (magnitude r) }
-{
-    limit <= loops::magnitude(r)
-}
-
-// r -= alpha q, z = M r; answers r · z. Of r · r it says only whether one place of r alone, by its size, makes it too great to be settled, since
-// products as small as its last ones are slow.
+// r -= alpha q, z = M r; answers r · z.
 #[tactic(auto, using(loops::proofs::Parts::tab_start, loops::proofs::Totals::sum_start))]
-pub fn residual_step(w: &mut [f64], n: usize, alpha: f64, limit: f64) -> Sums
+pub fn residual_step(w: &mut [f64], n: usize, alpha: f64) -> f64
     requires { length w.old ≡ 8 * n }
-    ensures { ResidualStep n alpha limit (rows 8 n w.old) (rows 8 n w.new) result }
+    ensures { ResidualStep n alpha (rows 8 n w.old) (rows 8 n w.new) result }
 {
     let grounded = GROUNDED * n;
     let diag = DIAG * n;
     let r = R * n;
     let z = Z * n;
     let q = Q * n;
-    let mut far = false;
     let mut rz = 0.0;
     for i in 0..n {
         let ri = w[r + i] - alpha * w[q + i];
         let zi = share(w[grounded + i], w[diag + i], ri);
         w[r + i] = ri;
         w[z + i] = zi;
-        far |= reaches(limit, ri);
         rz += ri * zi;
     }
-    Sums { far, rz }
+    rz
 }
 
 // x += alpha d
@@ -136,4 +121,23 @@ pub fn direction_step(w: &mut [f64], n: usize, alpha: f64, beta: f64)
         w[x + i] = xi;
         w[d + i] = next;
     }
+}
+
+// A place of the residual whose size reaches a limit: the first from the place `look` on, and round.
+pub fn far_place(w: &[f64], n: usize, limit: f64, look: usize) -> Option<usize>
+    requires { length w.now ≡ 8 * n }
+    ensures { IfSome result (λ place. Reached n limit (row (rows 8 n w.now) 4) place) }
+{
+    let r = R * n;
+    let mut place = if look < n { look } else { 0 };
+    for _turn in 0..n {
+        if limit <= loops::magnitude(w[r + place]) {
+            return Some(place);
+        }
+        place += 1;
+        if place == n {
+            place = 0;
+        }
+    }
+    None
 }

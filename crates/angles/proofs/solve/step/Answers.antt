@@ -1,8 +1,7 @@
 use lib.Dec.{lit<}
 use Rattle.loops.specs.Parts.{rows}
 use Rattle.angles.proofs.Rows.{apply_rows}
-use native.Mathlib.Omega.{arith}
-use Rattle.angles.proofs.Iterations.{reached, step_none, step_settled, step_more}
+use Rattle.angles.proofs.Iterations.{step_none, step_settled, step_more}
 use Rattle.angles.proofs.solve.step.Goals as goal
 
 pub returns-then-dq : goal.returns-then-dq
@@ -12,18 +11,11 @@ returns-then-dq c = step_none _ _ _ _ _ _ _ _ _ _ _ _ _ _ (apply_rows _ _ _ c.re
 pub returns-in-Some : goal.returns-in-Some
 unfolding rows
 returns-in-Some c =
-    step_settled _ _ _ _ _ _ _ _ _ _ _ _ _ _ (apply_rows _ _ _ c.requires.0 _ 6 7 _ (lit< tt) (lit< tt) c.apply-dq.ensures) _ _ _ c.if-dq.false
-    c.residual_step-sums.ensures _ _ c.in-Some.ensures c.angle_step.ensures
+    step_settled _ _ _ _ _ _ _ _ _ _ _ _ _ _ (apply_rows _ _ _ c.requires.0 _ 6 7 _ (lit< tt) (lit< tt) c.apply-dq.ensures) _ _ c.if-dq.false
+    c.residual_step-next_rz.ensures _ _ c.in-Some.ensures c.angle_step.ensures
 
 pub returns : goal.returns
 unfolding rows
 returns c =
-    step_more _ _ _ _ _ _ _ _ _ _ _ _ _ _ (apply_rows _ _ _ c.requires.0 _ 6 7 _ (lit< tt) (lit< tt) c.apply-dq.ensures) _ _ _ c.if-dq.false
-    c.residual_step-sums.ensures _ c.in_default.ensures c.direction_step.ensures
-
-pub judge_residual-requires : goal.judge_residual-requires
-unfolding rows
-judge_residual-requires c = (
-  omega (arith, c.requires.0, c.apply-dq.auto.w, c.residual_step-sums.auto.w),
-  reached _ _ c.args.bound.bound _ _ _ _ _ _ _ _ c.args.carried _ _ (apply_rows _ _ _ c.requires.0 _ 6 7 _ (lit< tt) (lit< tt) c.apply-dq.ensures) _ _ _ c.if-dq.false c.residual_step-sums.ensures,
-)
+    step_more _ _ _ _ _ _ _ _ _ _ _ _ _ _ (apply_rows _ _ _ c.requires.0 _ 6 7 _ (lit< tt) (lit< tt) c.apply-dq.ensures) _ _ c.if-dq.false
+    c.residual_step-next_rz.ensures _ _ c.in_default.ensures c.direction_step.ensures

@@ -8,7 +8,6 @@ use Rattle.loops.specs.Parts.{part}
 use Rattle.loops.proofs.Tab.{get_tab}
 use Rattle.loops.proofs.Totals.{sum_turn}
 use Rattle.angles.proofs.Turns.{product_of}
-use Rattle.angles.proofs.Reached.{reached_turn}
 use Rattle.loops.proofs.Puts.{two_first, two_other, two_turn}
 use Rattle.angles_defs.specs.Network.{back, shares}
 use Rattle.angles.proofs.Rows.{residual_step_rows}
@@ -36,8 +35,7 @@ loop-i-preserved c =
     let z = rw (g, k, u) at c.share-zi.ensures in (
       simp (length-set, length-set) l.loop-i.invariant.0,
       two_turn nan _ _ _ _ _ _ _ _ e (omega arith) hr hz t _ _ v z,
-      reached_turn _ _ _ _ _ _ l.loop-i.invariant.2 u c.reaches-far.ensures,
-      sum_turn _ _ _ _ l.loop-i.invariant.3
+      sum_turn _ _ _ _ l.loop-i.invariant.2
           (product_of (back n (part (4 * n) n w) a (part (7 * n) n w)) (shares n (part (1 * n) n w) (part (2 * n) n w) (back n (part (4 * n) n w) a (part (7 * n) n w))) i _ _ u (z ∙ sym (get_tab n _ i nan t))),
     )
 
@@ -45,4 +43,4 @@ pub returns : goal.returns
 unfolding back shares
 returns c =
     let e : c.loop-i.i ≡ c.args.n = omega arith in
-    residual_step_rows _ _ _ c.requires _ _ _ (rw e at c.loop-i.invariant.1) (rw e at c.loop-i.invariant.2) (rw e at c.loop-i.invariant.3)
+    residual_step_rows _ _ _ c.requires _ _ (rw e at c.loop-i.invariant.1) (rw e at c.loop-i.invariant.2)

@@ -216,8 +216,10 @@ both_known bound twice above f h =
     (s, surely_far twice bound e.1 s)
 
 -- ---- a place of the residual's row, as it stands in the slice
-pub reached_row : (n : ℕ) (w : List Float) (limit : Float) (place : ℕ) (size : Float) → place < n → size ≡ magnitude (at w (4 * n + place)) → le limit size ≡ true
-    → Reached n limit (row (rows 8 n w) 4) place
-reached_row n w limit place size l e h =
-    let v : at (row (rows 8 n w) 4) place ≡ at w (4 * n + place) = ap (λ (r : List Float). at r place) (sym (row_of 8 n 4 (4 * n) w refl (lit< tt))) ∙ get_part (4 * n) n w place nan l in
-    record { below = l; reaches = ap (λ (x : Float). le limit (magnitude x)) v ∙ ap (le limit) (sym e) ∙ h }
+module _ (n : ℕ) (w : List Float) (place : ℕ) (l : place < n) where
+  pub residual_place : at w (4 * n + place) ≡ at (row (rows 8 n w) 4) place
+  residual_place = sym (get_part (4 * n) n w place nan l) ∙ ap (λ (r : List Float). at r place) (row_of 8 n 4 (4 * n) w refl (lit< tt))
+
+  pub reached_row : (limit size : Float) → size ≡ magnitude (at w (4 * n + place)) → le limit size ≡ true → Reached n limit (row (rows 8 n w) 4) place
+  reached_row limit size e h =
+      record { below = l; reaches = ap (λ (x : Float). le limit (magnitude x)) (sym residual_place) ∙ ap (le limit) (sym e) ∙ h }

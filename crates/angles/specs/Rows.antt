@@ -7,6 +7,7 @@ use Rattle.angles_defs.specs.Network.{Edges, Network, grounded_of, diag_of, kept
 use Rattle.angles_defs.specs.Solve.{Solved, solved, State, Next, halt, go, step, begin}
 use Rattle.angles_defs.specs.Operation.{finite_at, work_places}
 use Rattle.angles_defs.specs.declared.Solution.{Solution}
+use Rattle.angles.specs.Bounds.{Reached}
 use Rattle.angles.specs.declared.solve.Carried.{Carried}
 use Rattle.std.specs.declared.ops.ControlFlow.{ControlFlow}
 use Rattle.std.specs.declared.ops.ControlFlow.TheVariants.{Break, Continue}
@@ -44,6 +45,11 @@ pub record Preconditioned (n : ℕ) (R R' : List (List Float)) (rz : Float) : Ty
 pub record Residual (n : ℕ) (R R' : List (List Float)) (rr : Float) : Type 0 where
   pub left : R' ≡ set R 4 (less n (row R 0) (row R 4))
   pub answered : rr ≡ dot n (less n (row R 0) (row R 4)) (less n (row R 0) (row R 4))
+
+-- r · r, or a place that reaches the limit
+abbrev pub Told : ℕ → Float → List Float → ControlFlow ℕ Float → Type 0
+Told n limit r (Break place) = Reached n limit r place
+Told n limit r (Continue rr) = rr ≡ dot n r r
 
 -- r after a step of alpha, and its z
 abbrev pub next_r : ℕ → Float → List (List Float) → List Float

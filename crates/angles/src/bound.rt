@@ -16,7 +16,8 @@ pub struct Bound {
     ghost far: { SurelyFar limit bound },
 }
 
-// The square of twice the bound, where it is above the square of a figure above the bound; none where those squares underflow or overflow.
+// The limit is twice the bound, and the square is its square, where that is above the square of a figure above the bound; neither is known
+// where those squares underflow or overflow.
 pub fn bound_of(bound: f64) -> Bound
     ensures { result.bound ≡ bound }
 {

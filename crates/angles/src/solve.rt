@@ -5,8 +5,6 @@ ghost use Rattle.loops.specs.Parts.{rows};
 ghost use Rattle.root.specs.Root.{root};
 ghost use Rattle.angles_defs.specs.Solve.{go, run, max_iterations, solve_from};
 ghost use Rattle.angles_defs.specs.Network.{dot};
-ghost use Rattle.std.specs.Option.{IfSome};
-ghost use Rattle.angles.specs.Bounds.{Reached};
 ghost use Rattle.angles.specs.Slices.{edges_in};
 ghost use Rattle.angles.specs.Rows.{row, network_in, state_in, within, solved_in, Stepped, Begun};
 
@@ -14,8 +12,8 @@ use crate::bound::{Bound, bound_of};
 use crate::grid::Grid;
 use crate::network::apply;
 use crate::steps::{
-    D, GROUNDED, Q, R, X, Z, angle_step, direction_step, far_place, precondition, residual,
-    residual_step,
+    D, GROUNDED, Q, R, X, Z, angle_step, direction_step, precondition, residual, residual_step,
+    square_or_far,
 };
 use crate::vectors::{clear, copy, dot};
 use angles_defs::{Ended, Solution};
@@ -47,15 +45,27 @@ fn judge(rr: f64, bound: Bound) -> Option<f64>
     }
 }
 
-// The norm of the residual, where it is within the bound. One place that reaches the limit tells that it is not: then r · r is not worked
-// out, of which the small products are slow.
-fn judge_residual(w: &[f64], n: usize, bound: Bound, far: Option<usize>) -> Option<f64>
-    requires { (length w.now ≡ 8 * n) × IfSome far (λ place. Reached n bound.limit (row (rows 8 n w.now) 4) place) }
-    ensures { result ≡ within (root (dot n (row (rows 8 n w.now) 4) (row (rows 8 n w.now) 4))) bound.bound }
+// The norm of the residual, where it is within the bound, and the place of r to look at first after the next step.
+#[derive(Clone, Copy)]
+struct Judged {
+    norm: Option<f64>,
+    look: usize,
+}
+
+// One place that reaches the limit tells that the norm is above the bound: then r · r is not worked out, of which small products are slow.
+fn judge_residual(w: &[f64], n: usize, bound: Bound, look: usize) -> Judged
+    requires { length w.now ≡ 8 * n }
+    ensures { result.norm ≡ within (root (dot n (row (rows 8 n w.now) 4) (row (rows 8 n w.now) 4))) bound.bound }
 {
-    match far {
-        Some(_) => None,
-        None => judge(dot(w, n, R * n, R * n), bound),
+    match square_or_far(w, n, bound.limit, look) {
+        ControlFlow::Break(place) => Judged {
+            norm: None,
+            look: place,
+        },
+        ControlFlow::Continue(rr) => Judged {
+            norm: judge(rr, bound),
+            look: 0,
+        },
     }
 }
 
@@ -81,8 +91,8 @@ fn step(
     }
     let alpha = rz / dq;
     let next_rz = residual_step(w, n, alpha);
-    let far = far_place(w, n, bound.limit, carried.look);
-    if let Some(norm) = judge_residual(w, n, bound, far) {
+    let judged = judge_residual(w, n, bound, carried.look);
+    if let Some(norm) = judged.norm {
         angle_step(w, n, alpha);
         return ControlFlow::Break(Solution {
             steps: steps + 1,
@@ -92,7 +102,7 @@ fn step(
     direction_step(w, n, alpha, next_rz / rz);
     ControlFlow::Continue(Carried {
         rz: next_rz,
-        look: far.unwrap_or(0),
+        look: judged.look,
         steps: steps + 1,
     })
 }

@@ -1,13 +1,11 @@
 // What an iteration does to the rows of the work slice w, each in one pass. Each call asks for the slice's length: of a struct of the slice
 // and n whose ghost field is that length, tried, each method had to promise that it still holds the same slice and the same n.
 ghost use Rattle.std.specs.Prelude.{◌≡◌, ◌*◌, length};
-ghost use Rattle.std.specs.Option.{IfSome};
-ghost use Rattle.std.specs.Float.Ieee.{le};
-ghost use Rattle.loops.specs.Figures.{magnitude};
 ghost use Rattle.loops.specs.Parts.{rows};
 ghost use Rattle.angles_defs.specs.Network.{share_at};
-ghost use Rattle.angles.specs.Bounds.{Reached};
-ghost use Rattle.angles.specs.Rows.{row, Preconditioned, Residual, ResidualStep, AngleStep, DirectionStep};
+ghost use Rattle.angles.specs.Rows.{row, Preconditioned, Residual, ResidualStep, AngleStep, DirectionStep, Told};
+
+use std::ops::ControlFlow;
 
 // The rows, by number. The right side is row 0.
 pub const GROUNDED: usize = 1;
@@ -123,21 +121,22 @@ pub fn direction_step(w: &mut [f64], n: usize, alpha: f64, beta: f64)
     }
 }
 
-// A place of the residual whose size reaches a limit: the first from the place `look` on, and round.
-pub fn far_place(w: &[f64], n: usize, limit: f64, look: usize) -> Option<usize>
+// r · r; or a place of r whose size reaches a limit, with which r · r need not be worked out. The place `look` is looked at first.
+pub fn square_or_far(w: &[f64], n: usize, limit: f64, look: usize) -> ControlFlow<usize, f64>
     requires { length w.now ≡ 8 * n }
-    ensures { IfSome result (λ place. Reached n limit (row (rows 8 n w.now) 4) place) }
+    ensures { Told n limit (row (rows 8 n w.now) 4) result }
 {
     let r = R * n;
-    let mut place = if look < n { look } else { 0 };
-    for _turn in 0..n {
-        if limit <= loops::magnitude(w[r + place]) {
-            return Some(place);
-        }
-        place += 1;
-        if place == n {
-            place = 0;
-        }
+    if look < n && limit <= loops::magnitude(w[r + look]) {
+        return ControlFlow::Break(look);
     }
-    None
+    let mut rr = 0.0;
+    for i in 0..n {
+        let ri = w[r + i];
+        if limit <= loops::magnitude(ri) {
+            return ControlFlow::Break(i);
+        }
+        rr += ri * ri;
+    }
+    ControlFlow::Continue(rr)
 }

@@ -61,7 +61,7 @@ root_above s bound h = go (le (of_bits binary64 0) s) refl
     go true e = e
     go false e = absurd (no_above bound (ap (lt bound) (nan_gives s e) ∙ h))
 
-bound_positive : (bound r : Float) → lt nought bound ≡ true → lt bound r ≡ true → T (positive bound)
+pub bound_positive : (bound r : Float) → lt nought bound ≡ true → lt bound r ≡ true → T (positive bound)
 unfolding lt of_bits
 bound_positive nan r p h = absurd (no refl p)
 bound_positive (inf true) r p h = absurd (no refl p)

@@ -16,7 +16,6 @@ use Rattle.angles_defs.proofs.Solves.{whichever}
 use Rattle.angles_defs.specs.declared.Ended.TheVariants.{Settled, NoDescent, StepsSpent}
 use Rattle.angles_defs.specs.declared.Solution.{Solution}
 use Rattle.angles.specs.Rows.{row, network_in, state_in, carried_by, solved_in, Iteration, next_in, within, Stepped, Begun, Preconditioned, Residual, next_r, next_z, ResidualStep, AngleStep, DirectionStep}
-use Rattle.angles.specs.declared.steps.Sums.{Sums}
 use Rattle.angles.specs.declared.solve.Carried.{Carried}
 use Rattle.std.specs.declared.ops.ControlFlow.TheVariants.{Break, Continue}
 use Rattle.std.specs.Prelude.{Some, None}
@@ -36,6 +35,9 @@ far v bound h = go (le v bound) refl h
     go : (b : Bool) → le v bound ≡ b → None ≡ cond b (Some v) None → le v bound ≡ false
     go true e p = absurd (unequal cc)
     go false e p = e
+
+pub not_within : (v bound : Float) → le v bound ≡ false → None ≡ within v bound
+not_within v bound h = rw h
 
 -- ---- an iteration that goes on or settles, and a beginning, with a name for each value
 module _ (N : Network) (bound : Float) where
@@ -72,7 +74,7 @@ module _ (n : ℕ) (E : Edges) (bound : Float) (b g c x r z d q : List Float) wh
     unfolding step
     step_none h = record { next = cc (A.left, A.answered, h); same = cc A.left }
 
-    module _ (R₂ : List (List Float)) (sums : Sums) (down : le dq nought ≡ false) (M : ResidualStep n (over k.rz dq) R₁ R₂ sums) where
+    module _ (R₂ : List (List Float)) (rz : Float) (down : le dq nought ≡ false) (M : ResidualStep n (over k.rz dq) R₁ R₂ rz) where
       abbrev alpha : Float
       alpha = over k.rz dq
 
@@ -91,34 +93,35 @@ module _ (n : ℕ) (E : Edges) (bound : Float) (b g c x r z d q : List Float) wh
       e₂ : R₂ ≡ b ∷ g ∷ c ∷ x ∷ r' ∷ z' ∷ d ∷ y ∷ []
       e₂ = M.left ∙ ap (λ (S : List (List Float)). set (set S 4 (next_r n alpha S)) 5 (next_z n alpha S)) A.left
 
-      err : sums.rr ≡ dot n r' r'
-      err = M.square ∙ ap (λ (S : List (List Float)). dot n (next_r n alpha S) (next_r n alpha S)) A.left
+      square : dot n (row R₂ 4) (row R₂ 4) ≡ dot n r' r'
+      square = ap (λ (S : List (List Float)). dot n (row S 4) (row S 4)) e₂
 
-      erz : sums.rz ≡ dot n r' z'
-      erz = M.shared ∙ ap (λ (S : List (List Float)). dot n (next_r n alpha S) (next_z n alpha S)) A.left
+      erz : rz ≡ dot n r' z'
+      erz = M.answered ∙ ap (λ (S : List (List Float)). dot n (next_r n alpha S) (next_z n alpha S)) A.left
 
-      pub step_settled : (R₃ : List (List Float)) (norm : Float) → Some norm ≡ within (root sums.rr) bound → AngleStep n alpha R₂ R₃
+      pub step_settled : (R₃ : List (List Float)) (norm : Float) → Some norm ≡ within (root (dot n (row R₂ 4) (row R₂ 4))) bound → AngleStep n alpha R₂ R₃
           → Stepped n E bound R₀ k R₃ (Break (record { steps = k.steps + 1; ended = Settled norm }))
       step_settled R₃ norm j T =
-          let w = near (root sums.rr) bound norm j in
+          let w = near (root (dot n (row R₂ 4) (row R₂ 4))) bound norm j in
           let e₃ : R₃ ≡ b ∷ g ∷ c ∷ x' ∷ r' ∷ z' ∷ d ∷ y ∷ [] = T.left ∙ ap (λ (S : List (List Float)). set S 3 (along n (row S 3) alpha (row S 6))) e₂ in
           record {
             next =
                 ap (λ (S : List (List Float)). halt (solved (row S 3) (k.steps + 1) (Settled norm))) e₃
-                ∙ settles N bound (state_in R₀ k) y x' r' dq sums.rr norm refl A.answered down refl refl err w.0 w.1;
+                ∙ settles N bound (state_in n R₀ k) y x' r' dq (dot n (row R₂ 4) (row R₂ 4)) norm refl A.answered down refl refl square w.0 w.1;
             same = ap (λ (S : List (List Float)). network_in n E S) e₃;
           }
 
-      pub step_more : (R₃ : List (List Float)) → None ≡ within (root sums.rr) bound → DirectionStep n alpha (over sums.rz k.rz) R₂ R₃
-          → Stepped n E bound R₀ k R₃ (Continue (carried_by sums.rz sums.rr (k.steps + 1)))
-      step_more R₃ j D =
-          let beta : Float = over sums.rz k.rz in
+      pub step_more : (R₃ : List (List Float)) (look : ℕ) → None ≡ within (root (dot n (row R₂ 4) (row R₂ 4))) bound → DirectionStep n alpha (over rz k.rz) R₂ R₃
+          → Stepped n E bound R₀ k R₃ (Continue (carried_by rz look (k.steps + 1)))
+      step_more R₃ look j D =
+          let beta : Float = over rz k.rz in
           let e₃ : R₃ ≡ b ∷ g ∷ c ∷ x' ∷ r' ∷ z' ∷ along n z' beta d ∷ y ∷ [] =
           D.left ∙ ap (λ (S : List (List Float)). set (set S 3 (along n (row S 3) alpha (row S 6))) 6 (along n (row S 5) beta (row S 6))) e₂ in
           record {
             next =
-                ap (λ (S : List (List Float)). go (state_in S (carried_by sums.rz sums.rr (k.steps + 1)))) e₃
-                ∙ goes_on_lem N bound (state_in R₀ k) y x' r' z' dq sums.rr sums.rz refl A.answered down refl refl err (far (root sums.rr) bound j) refl erz;
+                ap (λ (S : List (List Float)). go (state_in n S (carried_by rz look (k.steps + 1)))) e₃
+                ∙ goes_on_lem N bound (state_in n R₀ k) y x' r' z' dq (dot n r' r') rz refl A.answered down refl refl refl
+                (ap (λ (v : Float). le (root v) bound) (sym square) ∙ far (root (dot n (row R₂ 4) (row R₂ 4))) bound j) refl erz;
             same = ap (λ (S : List (List Float)). network_in n E S) e₃;
           }
 
@@ -129,9 +132,9 @@ module _ (n : ℕ) (E : Edges) (bound : Float) (b g c x r z d q : List Float) wh
         let w = near (root rr) bound norm j in
         record { next = cc (A.left, D.left, D.answered, w.0, w.1); same = cc (A.left, D.left) }
 
-    pub begin_more : (R₃ R₄ : List (List Float)) (rz : Float) → None ≡ within (root rr) bound → Preconditioned n R₂ R₃ rz → R₄ ≡ set R₃ 6 (row R₃ 5)
-        → Begun n E bound R₀ R₄ (Continue (carried_by rz rr 0))
-    begin_more R₃ R₄ rz j P C =
+    pub begin_more : (R₃ R₄ : List (List Float)) (rz : Float) (look : ℕ) → None ≡ within (root rr) bound → Preconditioned n R₂ R₃ rz → R₄ ≡ set R₃ 6 (row R₃ 5)
+        → Begun n E bound R₀ R₄ (Continue (carried_by rz look 0))
+    begin_more R₃ R₄ rz look j P C =
         let r' : List Float = less n b (apply N x) in
         let z' : List Float = shares n g c r' in
         let e₂ : R₂ ≡ b ∷ g ∷ c ∷ x ∷ r' ∷ z ∷ d ∷ q ∷ [] = D.left ∙ ap (λ (S : List (List Float)). set S 4 (less n (row S 0) (row S 4))) A.left in
@@ -141,8 +144,8 @@ module _ (n : ℕ) (E : Edges) (bound : Float) (b g c x r z d q : List Float) wh
         let erz : rz ≡ dot n r' z' = P.answered ∙ ap (λ (S : List (List Float)). dot n (row S 4) (shares n (row S 1) (row S 2) (row S 4))) e₂ in
         record {
           next =
-              ap (λ (S : List (List Float)). go (state_in S (carried_by rz rr 0))) e₄
-              ∙ begins N bound b x r' z' rr rz refl err (far (root rr) bound j) refl erz;
+              ap (λ (S : List (List Float)). go (state_in n S (carried_by rz look 0))) e₄
+              ∙ begins N bound b x r' z' (dot n r' r') rz refl refl (ap (λ (v : Float). le (root v) bound) (sym err) ∙ far (root rr) bound j) refl erz;
           same = ap (λ (S : List (List Float)). network_in n E S) e₄;
         }
 
@@ -184,29 +187,29 @@ module _ (N : Network) (bound : Float) where
 
 -- with some of m iterations taken: one that ends is the answer, one that goes on leaves one fewer, and after the last the norm is told
 module _ (n : ℕ) (E : Edges) (bound : Float) (R₀ R : List (List Float)) (k : Carried) (m : ℕ) (total : Solved)
-    (e : run (network_in n E R₀) bound (m - k.steps) (go (state_in R k)) ≡ total) where
+    (e : run (network_in n E R₀) bound (m - k.steps) (go (state_in n R k)) ≡ total) where
   abbrev N₀ : Network
   N₀ = network_in n E R₀
 
   module _ (R' : List (List Float)) (i : Iteration) (S : Stepped n E bound R k R' i) (same : network_in n E R ≡ network_in n E R₀) (l : k.steps < m) where
-    left : (next : Next) → next ≡ next_in R' i → run N₀ bound (m - (k.steps + 1)) next ≡ total
+    left : (next : Next) → next ≡ next_in n R' i → run N₀ bound (m - (k.steps + 1)) next ≡ total
     left next h =
-        ap (λ (x : Next). run N₀ bound (m - (k.steps + 1)) x) (h ∙ S.next ∙ ap (λ (N : Network). step N bound (state_in R k)) same)
-        ∙ sym (run_turn N₀ bound m k.steps (state_in R k) l) ∙ e
+        ap (λ (x : Next). run N₀ bound (m - (k.steps + 1)) x) (h ∙ S.next ∙ ap (λ (N : Network). step N bound (state_in n R k)) same)
+        ∙ sym (run_turn N₀ bound m k.steps (state_in n R k) l) ∙ e
 
     pub iterate_stop : (s : Solution) → i ≡ Break s → solved_in R' s ≡ total
-    iterate_stop s h = sym (run_halt N₀ bound (m - (k.steps + 1)) (solved_in R' s)) ∙ left (halt (solved_in R' s)) (ap (next_in R') (sym h))
+    iterate_stop s h = sym (run_halt N₀ bound (m - (k.steps + 1)) (solved_in R' s)) ∙ left (halt (solved_in R' s)) (ap (next_in n R') (sym h))
 
     module _ (k' : Carried) (h : i ≡ Continue k') where
       pub iterate_moves : k'.steps ≡ k.steps + 1
-      iterate_moves = step_moves (network_in n E R) bound (state_in R k) (state_in R' k') (ap (next_in R') (sym h) ∙ S.next)
+      iterate_moves = step_moves (network_in n E R) bound (state_in n R k) (state_in n R' k') (ap (next_in n R') (sym h) ∙ S.next)
 
-      pub iterate_more : run N₀ bound (m - k'.steps) (go (state_in R' k')) ≡ total
-      iterate_more = ap (λ (j : ℕ). run N₀ bound (m - j) (go (state_in R' k'))) iterate_moves ∙ left (go (state_in R' k')) (ap (next_in R') (sym h))
+      pub iterate_more : run N₀ bound (m - k'.steps) (go (state_in n R' k')) ≡ total
+      iterate_more = ap (λ (j : ℕ). run N₀ bound (m - j) (go (state_in n R' k'))) iterate_moves ∙ left (go (state_in n R' k')) (ap (next_in n R') (sym h))
 
-  pub iterate_end : (norm : Float) → m ≤ k.steps → norm ≡ root k.rr → solved (row R 3) k.steps (StepsSpent norm) ≡ total
+  pub iterate_end : (norm : Float) → m ≤ k.steps → norm ≡ root (dot n (row R 4) (row R 4)) → solved (row R 3) k.steps (StepsSpent norm) ≡ total
   iterate_end norm l h =
-      ap (λ (v : Float). solved (row R 3) k.steps (StepsSpent v)) h ∙ sym (run_end N₀ bound m k.steps (state_in R k) l) ∙ e
+      ap (λ (v : Float). solved (row R 3) k.steps (StepsSpent v)) h ∙ sym (run_end N₀ bound m k.steps (state_in n R k) l) ∙ e
 
 -- ---- the solve from the rows: where the norm is zero, where it ends at the beginning, and where it is run
 module _ (n : ℕ) (E : Edges) (R : List (List Float)) (norm0 : Float) (e : norm0 ≡ root (dot n (row R 0) (row R 0))) where
@@ -232,13 +235,13 @@ module _ (n : ℕ) (E : Edges) (R : List (List Float)) (norm0 : Float) (e : norm
 
   module _ (h : eq norm0 nought ≡ false) (R' : List (List Float)) (i : Iteration) (B : Begun n E bound₀ R R' i) where
     pub solve_stop : (s : Solution) → i ≡ Break s → solved_in R' s ≡ defined
-    solve_stop s q = sym (run_halt (network_in n E R) bound₀ (max_iterations n) (solved_in R' s)) ∙ begun h (halt (solved_in R' s)) (ap (next_in R') (sym q) ∙ B.next)
+    solve_stop s q = sym (run_halt (network_in n E R) bound₀ (max_iterations n) (solved_in R' s)) ∙ begun h (halt (solved_in R' s)) (ap (next_in n R') (sym q) ∙ B.next)
 
     pub solve_begins : (k : Carried) → i ≡ Continue k → k.steps ≡ 0
-    solve_begins k q = begin_moves (state_in R' k) (ap (next_in R') (sym q) ∙ B.next)
+    solve_begins k q = begin_moves (state_in n R' k) (ap (next_in n R') (sym q) ∙ B.next)
 
-    pub solve_run : (k : Carried) (o : Solved) → i ≡ Continue k → o ≡ run (network_in n E R') bound₀ (max_iterations n) (go (state_in R' k)) → o ≡ defined
+    pub solve_run : (k : Carried) (o : Solved) → i ≡ Continue k → o ≡ run (network_in n E R') bound₀ (max_iterations n) (go (state_in n R' k)) → o ≡ defined
     solve_run k o q r =
         r
-        ∙ ap (λ (N : Network). run N bound₀ (max_iterations n) (go (state_in R' k))) B.same
-        ∙ begun h (go (state_in R' k)) (ap (next_in R') (sym q) ∙ B.next)
+        ∙ ap (λ (N : Network). run N bound₀ (max_iterations n) (go (state_in n R' k))) B.same
+        ∙ begun h (go (state_in n R' k)) (ap (next_in n R') (sym q) ∙ B.next)

@@ -3,5 +3,6 @@ mod Parts
 mod Turns
 mod Rows
 mod Beyond
+mod Reached
 mod Iterations
 mod Ends

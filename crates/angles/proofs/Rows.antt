@@ -16,7 +16,6 @@ use Rattle.angles_defs.specs.Network.{Edges, scatter, kept, apply, shares, dot, 
 use Rattle.angles_defs.proofs.Vectors.{length_zeros, length_kept, length_shares, length_along, length_back, length_less}
 use Rattle.angles.specs.Slices.{Wrote}
 use Rattle.angles.specs.Rows.{row, network_in, Preconditioned, Residual, next_r, next_z, ResidualStep, AngleStep, DirectionStep}
-use Rattle.angles.specs.declared.steps.Sums.{Sums}
 
 -- row j set to v
 pub record Set (R R' : List (List Float)) (j : ℕ) (v : List Float) (sum answer : Float) : Type 0 where
@@ -63,13 +62,12 @@ module _ (n : ℕ) (w w' : List Float) (len : length w ≡ 8 * n) where
   abbrev z' : Float → List Float
   z' alpha = next_z n alpha (rows 8 n w)
 
-  pub residual_step_rows : (alpha : Float) (sums : Sums)
+  pub residual_step_rows : (alpha rz : Float)
       → w' ≡ put (put w (4 * n) (back n (part (4 * n) n w) alpha (part (7 * n) n w))) (5 * n)
       (shares n (part (1 * n) n w) (part (2 * n) n w) (back n (part (4 * n) n w) alpha (part (7 * n) n w)))
-      → sums.rr ≡ dot n (back n (part (4 * n) n w) alpha (part (7 * n) n w)) (back n (part (4 * n) n w) alpha (part (7 * n) n w))
-      → sums.rz ≡ dot n (back n (part (4 * n) n w) alpha (part (7 * n) n w)) (shares n (part (1 * n) n w) (part (2 * n) n w) (back n (part (4 * n) n w) alpha (part (7 * n) n w)))
-      → ResidualStep n alpha (rows 8 n w) (rows 8 n w') sums
-  residual_step_rows alpha sums e s t =
+      → rz ≡ dot n (back n (part (4 * n) n w) alpha (part (7 * n) n w)) (shares n (part (1 * n) n w) (part (2 * n) n w) (back n (part (4 * n) n w) alpha (part (7 * n) n w)))
+      → ResidualStep n alpha (rows 8 n w) (rows 8 n w') rz
+  residual_step_rows alpha rz e t =
       let g = row_of 8 n 1 (1 * n) w refl (lit< tt) in
       let c = row_of 8 n 2 (2 * n) w refl (lit< tt) in
       let r = row_of 8 n 4 (4 * n) w refl (lit< tt) in
@@ -80,8 +78,7 @@ module _ (n : ℕ) (w w' : List Float) (len : length w ≡ 8 * n) where
         left =
             rows_wrote nan 8 n 5 (5 * n) (put w (4 * n) (r' alpha)) w' (z' alpha) refl (lit< tt) long (length_shares n _ _ _) (rw (g, c, r, q) at e)
             ∙ ap (λ (S : List (List Float)). set S 5 (z' alpha)) (rows_wrote nan 8 n 4 (4 * n) w (put w (4 * n) (r' alpha)) (r' alpha) refl (lit< tt) len lR refl);
-        square = s ∙ rw (r, q);
-        shared = t ∙ rw (g, c, r, q);
+        answered = t ∙ rw (g, c, r, q);
       }
 
   abbrev x' : Float → List Float
@@ -120,6 +117,10 @@ module _ (n : ℕ) (w w' : List Float) (len : length w ≡ 8 * n) where
   clear_x e =
       ap (λ (S : List (List Float)). row S 3) (rows_wrote nan 8 n 3 (3 * n) w w' (zeros n) refl (lit< tt) len (length_zeros n) e)
       ∙ get_or-set_same (rows 8 n w) 3 (zeros n) [] (rw length_rows (lit< tt))
+
+-- r · r
+pub square_row : (n : ℕ) (w : List Float) (s : Float) → s ≡ dot n (part (4 * n) n w) (part (4 * n) n w) → s ≡ dot n (row (rows 8 n w) 4) (row (rows 8 n w) 4)
+square_row n w s e = e ∙ rw (row_of 8 n 4 (4 * n) w refl (lit< tt))
 
 -- the norm of the right side
 pub norm_row : (n : ℕ) (w : List Float) (s norm0 : Float) → s ≡ dot n (part 0 n w) (part 0 n w) → norm0 ≡ root s → norm0 ≡ root (dot n (row (rows 8 n w) 0) (row (rows 8 n w) 0))

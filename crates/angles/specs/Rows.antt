@@ -7,7 +7,7 @@ use Rattle.angles_defs.specs.Network.{Edges, Network, grounded_of, diag_of, kept
 use Rattle.angles_defs.specs.Solve.{Solved, solved, State, Next, halt, go, step, begin}
 use Rattle.angles_defs.specs.Operation.{finite_at, work_places}
 use Rattle.angles_defs.specs.declared.Solution.{Solution}
-use Rattle.angles.specs.declared.steps.Sums.{Sums}
+use Rattle.angles.specs.Bounds.{Reached}
 use Rattle.angles.specs.declared.solve.Carried.{Carried}
 use Rattle.std.specs.declared.ops.ControlFlow.{ControlFlow}
 use Rattle.std.specs.declared.ops.ControlFlow.TheVariants.{Break, Continue}
@@ -20,11 +20,11 @@ abbrev pub network_in : ℕ → Edges → List (List Float) → Network
 network_in n E R = record { n = n; edges = E; grounded = row R 1; diag = row R 2 }
 
 -- the state between two iterations, with what the code carries
-abbrev pub state_in : List (List Float) → Carried → State
-state_in R c = record { x = row R 3; r = row R 4; d = row R 6; rz = c.rz; norm = root c.rr; steps = c.steps }
+abbrev pub state_in : ℕ → List (List Float) → Carried → State
+state_in n R c = record { x = row R 3; r = row R 4; d = row R 6; rz = c.rz; norm = root (dot n (row R 4) (row R 4)); steps = c.steps }
 
-abbrev pub carried_by : Float → Float → ℕ → Carried
-carried_by rz rr steps = record { rz = rz; rr = rr; steps = steps }
+abbrev pub carried_by : Float → ℕ → ℕ → Carried
+carried_by rz look steps = record { rz = rz; look = look; steps = steps }
 
 -- a solution with the rows that it leaves, and an iteration
 abbrev pub solved_in : List (List Float) → Solution → Solved
@@ -33,9 +33,9 @@ solved_in R s = solved (row R 3) s.steps s.ended
 abbrev pub Iteration : Type 0
 Iteration = ControlFlow Solution Carried
 
-abbrev pub next_in : List (List Float) → Iteration → Next
-next_in R (Break s) = halt (solved_in R s)
-next_in R (Continue c) = go (state_in R c)
+abbrev pub next_in : ℕ → List (List Float) → Iteration → Next
+next_in n R (Break s) = halt (solved_in R s)
+next_in n R (Continue c) = go (state_in n R c)
 
 -- ---- what the parts of an iteration leave and answer
 pub record Preconditioned (n : ℕ) (R R' : List (List Float)) (rz : Float) : Type 0 where
@@ -46,6 +46,11 @@ pub record Residual (n : ℕ) (R R' : List (List Float)) (rr : Float) : Type 0 w
   pub left : R' ≡ set R 4 (less n (row R 0) (row R 4))
   pub answered : rr ≡ dot n (less n (row R 0) (row R 4)) (less n (row R 0) (row R 4))
 
+-- r · r, or a place that reaches the limit
+abbrev pub Told : ℕ → Float → List Float → ControlFlow ℕ Float → Type 0
+Told n limit r (Break place) = Reached n limit r place
+Told n limit r (Continue rr) = rr ≡ dot n r r
+
 -- r after a step of alpha, and its z
 abbrev pub next_r : ℕ → Float → List (List Float) → List Float
 next_r n alpha R = back n (row R 4) alpha (row R 7)
@@ -53,10 +58,9 @@ next_r n alpha R = back n (row R 4) alpha (row R 7)
 abbrev pub next_z : ℕ → Float → List (List Float) → List Float
 next_z n alpha R = shares n (row R 1) (row R 2) (next_r n alpha R)
 
-pub record ResidualStep (n : ℕ) (alpha : Float) (R R' : List (List Float)) (sums : Sums) : Type 0 where
+pub record ResidualStep (n : ℕ) (alpha : Float) (R R' : List (List Float)) (rz : Float) : Type 0 where
   pub left : R' ≡ set (set R 4 (next_r n alpha R)) 5 (next_z n alpha R)
-  pub square : sums.rr ≡ dot n (next_r n alpha R) (next_r n alpha R)
-  pub shared : sums.rz ≡ dot n (next_r n alpha R) (next_z n alpha R)
+  pub answered : rz ≡ dot n (next_r n alpha R) (next_z n alpha R)
 
 pub record AngleStep (n : ℕ) (alpha : Float) (R R' : List (List Float)) : Type 0 where
   pub left : R' ≡ set R 3 (along n (row R 3) alpha (row R 6))
@@ -70,11 +74,11 @@ within norm bound = cond (le norm bound) (Some norm) None
 
 -- ---- an iteration, and what stands before the first: the network stays
 pub record Stepped (n : ℕ) (E : Edges) (bound : Float) (R : List (List Float)) (c : Carried) (R' : List (List Float)) (i : Iteration) : Type 0 where
-  pub next : next_in R' i ≡ step (network_in n E R) bound (state_in R c)
+  pub next : next_in n R' i ≡ step (network_in n E R) bound (state_in n R c)
   pub same : network_in n E R' ≡ network_in n E R
 
 pub record Begun (n : ℕ) (E : Edges) (bound : Float) (R R' : List (List Float)) (i : Iteration) : Type 0 where
-  pub next : next_in R' i ≡ begin (network_in n E R) bound (row R 0) (row R 3)
+  pub next : next_in n R' i ≡ begin (network_in n E R) bound (row R 0) (row R 3)
   pub same : network_in n E R' ≡ network_in n E R
 
 -- ---- the operation: the rows that a solve begins with, and what is handed out

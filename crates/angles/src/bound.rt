@@ -3,28 +3,35 @@ ghost use Rattle.std.specs.Prelude.{◌≡◌, true, false};
 ghost use Rattle.std.specs.Option.{ForSome};
 ghost use Rattle.std.specs.Float.Ieee.{le};
 ghost use Rattle.root.specs.Root.{root};
-ghost use Rattle.angles.specs.Bounds.{SurelyBeyond};
+ghost use Rattle.angles.specs.Bounds.{SurelyBeyond, SurelyFar};
 
-// A bound, and a square from which on each has a root above it, where one is known.
+// A bound; a square from which on each has a root above it, where one is known; and a limit, such that each figure whose size reaches it
+// has such a square: a NaN, which nothing reaches, where none is known.
 #[derive(Clone, Copy)]
 pub struct Bound {
     pub bound: f64,
+    pub limit: f64,
     beyond: Option<f64>,
     ghost sure: { ForSome beyond (λ b. SurelyBeyond b bound) },
+    ghost far: { SurelyFar limit bound },
 }
 
-// The square of twice the bound, where it is above the square of a figure above the bound; none where those squares underflow or overflow.
+// The limit is twice the bound, and the square is its square, where that is above the square of a figure above the bound; neither is known
+// where those squares underflow or overflow.
 pub fn bound_of(bound: f64) -> Bound
     ensures { result.bound ≡ bound }
 {
     let above = 1.5 * bound;
-    let square = 2.0 * bound * (2.0 * bound);
+    let twice = 2.0 * bound;
+    let square = twice * twice;
     let is_beyond = (0.0 < bound)
+        & (0.0 < twice)
         & (bound < above)
         & (0.0 < above * above)
         & (above * above < square);
     Bound {
         bound,
+        limit: if is_beyond { twice } else { f64::NAN },
         beyond: is_beyond.then_some(square),
     }
 }

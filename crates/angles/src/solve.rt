@@ -4,6 +4,7 @@ ghost use Rattle.loops.specs.Bounds.{most_buses};
 ghost use Rattle.loops.specs.Parts.{rows};
 ghost use Rattle.root.specs.Root.{root};
 ghost use Rattle.angles_defs.specs.Solve.{go, run, max_iterations, solve_from};
+ghost use Rattle.angles_defs.specs.Network.{dot};
 ghost use Rattle.angles.specs.Slices.{edges_in};
 ghost use Rattle.angles.specs.Rows.{row, network_in, state_in, within, solved_in, Stepped, Begun};
 
@@ -12,6 +13,7 @@ use crate::grid::Grid;
 use crate::network::apply;
 use crate::steps::{
     D, GROUNDED, Q, R, X, Z, angle_step, direction_step, precondition, residual, residual_step,
+    square_or_far,
 };
 use crate::vectors::{clear, copy, dot};
 use angles_defs::{Ended, Solution};
@@ -20,11 +22,11 @@ use std::ops::ControlFlow;
 // The share of the right side's norm at which the residual's settles the solve.
 const SETTLED_SHARE: f64 = 1e-11;
 
-// What one iteration hands to the next: r · z, r · r, and how often x was moved.
+// What one iteration hands to the next: r · z, the place of r to look at first, and how often x was moved.
 #[derive(Clone, Copy)]
 struct Carried {
     rz: f64,
-    rr: f64,
+    look: usize,
     steps: usize,
 }
 
@@ -40,6 +42,30 @@ fn judge(rr: f64, bound: Bound) -> Option<f64>
         Some(norm)
     } else {
         None
+    }
+}
+
+// The norm of the residual, where it is within the bound, and the place of r to look at first after the next step.
+#[derive(Clone, Copy)]
+struct Judged {
+    norm: Option<f64>,
+    look: usize,
+}
+
+// One place that reaches the limit tells that the norm is above the bound: then r · r is not worked out, of which small products are slow.
+fn judge_residual(w: &[f64], n: usize, bound: Bound, look: usize) -> Judged
+    requires { length w.now ≡ 8 * n }
+    ensures { result.norm ≡ within (root (dot n (row (rows 8 n w.now) 4) (row (rows 8 n w.now) 4))) bound.bound }
+{
+    match square_or_far(w, n, bound.limit, look) {
+        ControlFlow::Break(place) => Judged {
+            norm: None,
+            look: place,
+        },
+        ControlFlow::Continue(rr) => Judged {
+            norm: judge(rr, bound),
+            look: 0,
+        },
     }
 }
 
@@ -64,18 +90,19 @@ fn step(
         });
     }
     let alpha = rz / dq;
-    let sums = residual_step(w, n, alpha);
-    if let Some(norm) = judge(sums.rr, bound) {
+    let next_rz = residual_step(w, n, alpha);
+    let judged = judge_residual(w, n, bound, carried.look);
+    if let Some(norm) = judged.norm {
         angle_step(w, n, alpha);
         return ControlFlow::Break(Solution {
             steps: steps + 1,
             ended: Ended::Settled(norm),
         });
     }
-    direction_step(w, n, alpha, sums.rz / rz);
+    direction_step(w, n, alpha, next_rz / rz);
     ControlFlow::Continue(Carried {
-        rz: sums.rz,
-        rr: sums.rr,
+        rz: next_rz,
+        look: judged.look,
         steps: steps + 1,
     })
 }
@@ -89,10 +116,11 @@ fn iterate(grid: &Grid, w: &mut [f64], bound: Bound, first: Carried) -> Solution
     requires { (length w.old ≡ 8 * grid.now.n) × (grid.now.n ≤ most_buses) × (first.steps ≡ 0) }
     ensures { solved_in (rows 8 grid.now.n w.new) result
         ≡ run (network_in grid.now.n (edges_in grid.now) (rows 8 grid.now.n w.old)) bound.bound (max_iterations grid.now.n)
-        (go (state_in (rows 8 grid.now.n w.old) first)) }
+        (go (state_in grid.now.n (rows 8 grid.now.n w.old) first)) }
 {
+    let n = grid.n;
     let mut carried = first;
-    for _turn in 0..STEPS_PER_BUS * grid.n + MORE_STEPS {
+    for _turn in 0..STEPS_PER_BUS * n + MORE_STEPS {
         match step(grid, w, bound, carried) {
             ControlFlow::Break(solution) => return solution,
             ControlFlow::Continue(next) => carried = next,
@@ -100,7 +128,7 @@ fn iterate(grid: &Grid, w: &mut [f64], bound: Bound, first: Carried) -> Solution
     }
     Solution {
         steps: carried.steps,
-        ended: Ended::StepsSpent(root::sqrt(carried.rr)),
+        ended: Ended::StepsSpent(root::sqrt(dot(w, n, R * n, R * n))),
     }
 }
 
@@ -120,7 +148,11 @@ fn begin(grid: &Grid, w: &mut [f64], bound: Bound) -> ControlFlow<Solution, Carr
     }
     let rz = precondition(w, n);
     copy(w, n, Z * n, D * n);
-    ControlFlow::Continue(Carried { rz, rr, steps: 0 })
+    ControlFlow::Continue(Carried {
+        rz,
+        look: 0,
+        steps: 0,
+    })
 }
 
 // The solve: zeros where the norm of the right side comes to zero, whatever the guess.

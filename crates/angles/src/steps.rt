@@ -3,7 +3,9 @@
 ghost use Rattle.std.specs.Prelude.{◌≡◌, ◌*◌, length};
 ghost use Rattle.loops.specs.Parts.{rows};
 ghost use Rattle.angles_defs.specs.Network.{share_at};
-ghost use Rattle.angles.specs.Rows.{Preconditioned, Residual, ResidualStep, AngleStep, DirectionStep};
+ghost use Rattle.angles.specs.Rows.{row, Preconditioned, Residual, ResidualStep, AngleStep, DirectionStep, Told};
+
+use std::ops::ControlFlow;
 
 // The rows, by number. The right side is row 0.
 pub const GROUNDED: usize = 1;
@@ -66,16 +68,9 @@ pub fn residual(w: &mut [f64], n: usize) -> f64
     rr
 }
 
-// The sums that end an iteration: r · r and r · z.
-#[derive(Clone, Copy)]
-pub struct Sums {
-    pub rr: f64,
-    pub rz: f64,
-}
-
-// r -= alpha q, z = M r; answers r · r and r · z, which are added up side by side.
+// r -= alpha q, z = M r; answers r · z.
 #[tactic(auto, using(loops::proofs::Parts::tab_start, loops::proofs::Totals::sum_start))]
-pub fn residual_step(w: &mut [f64], n: usize, alpha: f64) -> Sums
+pub fn residual_step(w: &mut [f64], n: usize, alpha: f64) -> f64
     requires { length w.old ≡ 8 * n }
     ensures { ResidualStep n alpha (rows 8 n w.old) (rows 8 n w.new) result }
 {
@@ -84,17 +79,15 @@ pub fn residual_step(w: &mut [f64], n: usize, alpha: f64) -> Sums
     let r = R * n;
     let z = Z * n;
     let q = Q * n;
-    let mut rr = 0.0;
     let mut rz = 0.0;
     for i in 0..n {
         let ri = w[r + i] - alpha * w[q + i];
         let zi = share(w[grounded + i], w[diag + i], ri);
         w[r + i] = ri;
         w[z + i] = zi;
-        rr += ri * ri;
         rz += ri * zi;
     }
-    Sums { rr, rz }
+    rz
 }
 
 // x += alpha d
@@ -126,4 +119,24 @@ pub fn direction_step(w: &mut [f64], n: usize, alpha: f64, beta: f64)
         w[x + i] = xi;
         w[d + i] = next;
     }
+}
+
+// r · r; or a place of r whose size reaches a limit, with which r · r need not be worked out. The place `look` is looked at first.
+pub fn square_or_far(w: &[f64], n: usize, limit: f64, look: usize) -> ControlFlow<usize, f64>
+    requires { length w.now ≡ 8 * n }
+    ensures { Told n limit (row (rows 8 n w.now) 4) result }
+{
+    let r = R * n;
+    if look < n && limit <= loops::magnitude(w[r + look]) {
+        return ControlFlow::Break(look);
+    }
+    let mut rr = 0.0;
+    for i in 0..n {
+        let ri = w[r + i];
+        if limit <= loops::magnitude(ri) {
+            return ControlFlow::Break(i);
+        }
+        rr += ri * ri;
+    }
+    ControlFlow::Continue(rr)
 }

@@ -1,15 +1,20 @@
-use lib.Ieee.{binary64}
+use mathlib.Core.Path.{sym, subst}
+use lib.Ieee.{Float, binary64, of_bits}
 use lib.Ieee.Fits.{mul-fits}
-use Rattle.loops.proofs.Bools.{both}
-use Rattle.angles.proofs.Beyond.{beyond_square, root_beyond, known_where}
+use Rattle.angles.specs.Bounds.{SurelyFar}
+use Rattle.angles.proofs.Beyond.{known_where}
+use Rattle.angles.proofs.Reached.{both_known, nothing_far}
 use Rattle.angles.proofs.bound.bound_of.Goals as goal
+use Rattle.angles.proofs.bound.bound_of.Goals.{then-is_beyond, else-is_beyond}
 
 pub invariant_of-result : goal.invariant_of-result
+unfolding of_bits
 invariant_of-result c =
     record {
-      sure = known_where _ _ _ _ c.then_some.ensures (λ h.
-          let a = both _ _ h in
-          let b = both _ _ a.0 in
-          let d = both _ _ b.0 in
-          beyond_square _ _ (mul-fits binary64 _ _) d.0 (root_beyond _ _ _ (mul-fits binary64 _ _) (mul-fits binary64 _ _) d.0 d.1 b.1 a.1));
+      sure = known_where _ _ _ _ c.then_some.ensures (λ h. (both_known _ _ _ (mul-fits binary64 _ _) h).0);
+      far =
+          elim c.if-is_beyond.branch [
+            | then-is_beyond w ↦ subst (λ (l : Float). SurelyFar l c.args.bound) (sym w.result-is) (both_known _ _ _ (mul-fits binary64 _ _) w.if-is_beyond.true).1
+            | else-is_beyond w ↦ subst (λ (l : Float). SurelyFar l c.args.bound) (sym w.result-is) (nothing_far c.args.bound)
+          ];
     }

@@ -13,5 +13,5 @@ returns-in-Some c =
 pub returns : goal.returns
 unfolding rows
 returns c =
-    begin_more _ _ _ _ _ _ _ _ _ _ _ _ _ _ _ (apply_rows _ _ _ c.requires _ 3 4 _ (lit< tt) (lit< tt) c.apply.ensures) c.residual-rr.ensures _ _ _
+    begin_more _ _ _ _ _ _ _ _ _ _ _ _ _ _ _ (apply_rows _ _ _ c.requires _ 3 4 _ (lit< tt) (lit< tt) c.apply.ensures) c.residual-rr.ensures _ _ _ _
     c.in_default.ensures c.precondition-rz.ensures (copy_rows _ _ _ (omega (arith, c.apply.auto.w, c.residual-rr.auto.w, c.precondition-rz.auto.w)) c.copy.ensures)

@@ -1,7 +1,9 @@
-use mathlib.Core.Path.{◌∙◌}
+use mathlib.Core.Path.{ap, ◌∙◌}
 use native.Mathlib.Omega.{arith}
 use Rattle.loops.specs.Parts.{rows}
 use Rattle.angles.specs.Slices.{edges_in}
+use Rattle.root.specs.Root.{root}
+use Rattle.angles.proofs.Rows.{square_row}
 use Rattle.angles.proofs.Iterations.{iterate_stop, iterate_moves, iterate_more, iterate_end}
 use Rattle.angles.proofs.solve.iterate.Goals as goal
 
@@ -29,4 +31,4 @@ returns c =
     let l = c.loop-turn in
     let a = c.args in
     iterate_end a.grid.now.n (edges_in a.grid.now) a.bound.bound (rows 8 a.grid.now.n a.w.now) (rows 8 a.grid.now.n l.w) l.carried _ _
-    l.invariant.3 _ (omega arith) c.sqrt.ensures
+    l.invariant.3 _ (omega arith) (c.sqrt.ensures ∙ ap root (square_row _ l.w _ c.dot.ensures))

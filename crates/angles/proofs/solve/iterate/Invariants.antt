@@ -12,4 +12,4 @@ abbrev pub invariant-loop-turn : goal.invariant-loop-turn
 invariant-loop-turn l =
     (l.carried.steps ≡ l._turn) × (length l.w ≡ 8 * l.grid.n)
     × (network_in l.grid.n (edges_in l.grid) (rows 8 l.grid.n l.w) ≡ network_in l.grid.n (edges_in l.grid) (rows 8 l.grid.n l.initial.w))
-    × (run (network_in l.grid.n (edges_in l.grid) (rows 8 l.grid.n l.initial.w)) l.bound.bound (max_iterations l.grid.n - l.carried.steps) (go (state_in (rows 8 l.grid.n l.w) l.carried)) ≡ run (network_in l.grid.n (edges_in l.grid) (rows 8 l.grid.n l.initial.w)) l.bound.bound (max_iterations l.grid.n) (go (state_in (rows 8 l.grid.n l.initial.w) l.fn.first)))
+    × (run (network_in l.grid.n (edges_in l.grid) (rows 8 l.grid.n l.initial.w)) l.bound.bound (max_iterations l.grid.n - l.carried.steps) (go (state_in l.grid.n (rows 8 l.grid.n l.w) l.carried)) ≡ run (network_in l.grid.n (edges_in l.grid) (rows 8 l.grid.n l.initial.w)) l.bound.bound (max_iterations l.grid.n) (go (state_in l.grid.n (rows 8 l.grid.n l.initial.w) l.fn.first)))

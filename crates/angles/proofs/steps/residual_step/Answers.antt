@@ -35,8 +35,7 @@ loop-i-preserved c =
     let z = rw (g, k, u) at c.share-zi.ensures in (
       simp (length-set, length-set) l.loop-i.invariant.0,
       two_turn nan _ _ _ _ _ _ _ _ e (omega arith) hr hz t _ _ v z,
-      sum_turn _ _ _ _ l.loop-i.invariant.2 (product_of (back n (part (4 * n) n w) a (part (7 * n) n w)) (back n (part (4 * n) n w) a (part (7 * n) n w)) i _ _ u u),
-      sum_turn _ _ _ _ l.loop-i.invariant.3
+      sum_turn _ _ _ _ l.loop-i.invariant.2
           (product_of (back n (part (4 * n) n w) a (part (7 * n) n w)) (shares n (part (1 * n) n w) (part (2 * n) n w) (back n (part (4 * n) n w) a (part (7 * n) n w))) i _ _ u (z ∙ sym (get_tab n _ i nan t))),
     )
 
@@ -44,4 +43,4 @@ pub returns : goal.returns
 unfolding back shares
 returns c =
     let e : c.loop-i.i ≡ c.args.n = omega arith in
-    residual_step_rows _ _ _ c.requires _ _ (rw e at c.loop-i.invariant.1) (rw e at c.loop-i.invariant.2) (rw e at c.loop-i.invariant.3)
+    residual_step_rows _ _ _ c.requires _ _ (rw e at c.loop-i.invariant.1) (rw e at c.loop-i.invariant.2)

@@ -114,9 +114,8 @@ fn compare(what: &str, q: &Request, runs: usize) -> usize {
     steps
 }
 
-/// The additions of a solve of so many steps as the code makes them: in each step three sums over the buses, each in order, as
-/// the scope has it, d·q first and then r·r and r·z side by side. This makes those additions and nothing else; what begins a
-/// sum waits for the sums before it, as in a solve.
+/// The additions that each step of a solve waits for: two sums over the buses, each in order, as the scope has it, d·q and then
+/// r·z. This makes those additions and nothing else; what begins a sum waits for the sum before it, as in a solve.
 fn additions(n: usize, steps: usize) {
     let terms = vec![1e-3; n];
     let mut dq = 0.0;
@@ -124,12 +123,11 @@ fn additions(n: usize, steps: usize) {
         for term in black_box(&terms) {
             dq += term;
         }
-        let (mut rr, mut rz) = (dq, -dq);
+        let mut rz = -dq;
         for term in black_box(&terms) {
-            rr += term;
             rz -= term;
         }
-        dq = rr + rz;
+        dq = -rz;
     }
     black_box(dq);
 }

@@ -23,7 +23,7 @@ use Rattle.casefile_defs.specs.Reading.{lines, counts_ok, case_read}
 use Rattle.casefile_defs.specs.Tables.{Places, sizes_ok, basis_field, basis_of, read_case, outcome as readAs}
 use Rattle.casefile_defs.specs.declared.Header.{Header}
 use Rattle.casefile_theorems.specs.Writer.{Form, file_of, row_cell}
-use Rattle.casefile_theorems.specs.Cases.{Numbers, Figures, Sheet, Case as Filed, Legal}
+use Rattle.casefile_theorems.specs.Cases.{Numbers, Figures, Sheet, CaseTables as Filed, Legal}
 use Rattle.casefile_theorems.proofs.Theorems.{case_back}
 use Rattle.plan_defs.specs.Case.{Case, Row, levels}
 use Rattle.plan_defs.specs.Accept.{generator_ok}

@@ -9,34 +9,34 @@ use Rattle.line_defs.specs.Spread.{fifth_root}
 use Rattle.line_defs.proofs.Powers.{mul_pow}
 
 -- q is the whole part of the fifth root of n
-abbrev pub IsRoot : ℕ → ℕ → Type 0
-IsRoot n q = (q ^ 5 ≤ n) × (n < (q + 1) ^ 5)
+abbrev pub IsFifthRoot : ℕ → ℕ → Type 0
+IsFifthRoot n q = (q ^ 5 ≤ n) × (n < (q + 1) ^ 5)
 
 less : (a b : ℕ) → a ^ 5 < b ^ 5 → a < b
 less a b h = lt_of_not-le (λ (g : b ≤ a). not-le_of_lt h (pow-le-pow_left g 5))
 
-unique : (n p q : ℕ) → IsRoot n p → IsRoot n q → p ≡ q
+unique : (n p q : ℕ) → IsFifthRoot n p → IsFifthRoot n q → p ≡ q
 unique n p q a b =
     let x : p < q + 1 = less p (q + 1) (lt_of_le_of_lt a.0 b.1) in
     let y : q < p + 1 = less q (p + 1) (lt_of_le_of_lt b.0 a.1) in
     omega arith
 
-digit : (n p : ℕ) → IsRoot (n / 32) p → IsRoot n (cond (leb ((2 * p + 1) ^ 5) n) (2 * p + 1) (2 * p))
+digit : (n p : ℕ) → IsFifthRoot (n / 32) p → IsFifthRoot n (cond (leb ((2 * p + 1) ^ 5) n) (2 * p + 1) (2 * p))
 digit n p i =
     let a : (2 * p) ^ 5 ≡ 32 * p ^ 5 = mul_pow 2 p 5 in
     let e : 2 * p + 1 + 1 ≡ 2 * (p + 1) = omega arith in
     let b : (2 * p + 1 + 1) ^ 5 ≡ 32 * (p + 1) ^ 5 = ap (λ (z : ℕ). z ^ 5) e ∙ mul_pow 2 (p + 1) 5 in
     go (leb ((2 * p + 1) ^ 5) n) (leb→le ((2 * p + 1) ^ 5) n) (nleb→lt ((2 * p + 1) ^ 5) n) (omega (arith, i)) (omega (arith, i))
   where
-    go : (b : Bool) → (T b → (2 * p + 1) ^ 5 ≤ n) → (T (not b) → n < (2 * p + 1) ^ 5) → (2 * p) ^ 5 ≤ n → n < (2 * p + 1 + 1) ^ 5 → IsRoot n (cond b (2 * p + 1) (2 * p))
+    go : (b : Bool) → (T b → (2 * p + 1) ^ 5 ≤ n) → (T (not b) → n < (2 * p + 1) ^ 5) → (2 * p) ^ 5 ≤ n → n < (2 * p + 1 + 1) ^ 5 → IsFifthRoot n (cond b (2 * p + 1) (2 * p))
     go true x y l u = (x tt, u)
     go false x y l u = (l, y tt)
 
-is_root : (d n : ℕ) → n < 32 ^ d → IsRoot n (fifth_root d n)
+is_root : (d n : ℕ) → n < 32 ^ d → IsFifthRoot n (fifth_root d n)
 unfolding fifth_root
 is_root zero n h = none n h
   where
-    none : (n : ℕ) → n < 1 → IsRoot n 0
+    none : (n : ℕ) → n < 1 → IsFifthRoot n 0
     none n h = (omega arith, omega arith)
 is_root (suc d) n h = digit n (fifth_root d (n / 32)) (is_root d (n / 32) (part (32 ^ d) (subst (λ (z : ℕ). n < z) (pow-succ' 32 d) h)))
   where
@@ -47,10 +47,10 @@ is_root (suc d) n h = digit n (fifth_root d (n / 32)) (is_root d (n / 32) (part 
 few_part : (c : ℕ) → c < 2 ^ 171 → c / 4 < 32 ^ 34
 few_part c h = (div-lt_iff_lt-mul (lit< tt)).1 (lt_of_lt_of_le h (lit≤ tt))
 
-quarter : (c r : ℕ) → 4 * r ^ 5 ≤ c → c < 4 * (r + 1) ^ 5 → IsRoot (c / 4) r
+quarter : (c r : ℕ) → 4 * r ^ 5 ≤ c → c < 4 * (r + 1) ^ 5 → IsFifthRoot (c / 4) r
 quarter c r l u = (omega arith, omega arith)
 
-back : (c r : ℕ) → IsRoot (c / 4) r → (4 * r ^ 5 ≤ c) × (c < 4 * (r + 1) ^ 5)
+back : (c r : ℕ) → IsFifthRoot (c / 4) r → (4 * r ^ 5 ≤ c) × (c < 4 * (r + 1) ^ 5)
 back c r i = (omega arith, omega arith)
 
 pub cube_few : (a : ℕ) → a < 2 ^ 57 → a ^ 3 < 2 ^ 171

@@ -6,6 +6,7 @@ use Rattle.loops.specs.Bounds.{most_levels, most_corridors}
 use Rattle.loops.specs.Parts.{part}
 use Rattle.loops.proofs.Bools.{both}
 use Rattle.loops.proofs.Rows.{row_fits}
+use Rattle.sheets.specs.Sheet.{row_figures}
 use Rattle.sheets.specs.Request.{counts_ok}
 use Rattle.line_defs.specs.Rows.{sheets_ok, corridor_figures, sheet_figures, corridor_rows}
 
@@ -40,9 +41,9 @@ sheets_of levels corridors surveyed n m e =
     }
 
 -- a product of the counts is small
-pub figures_most : (levels corridors k : ℕ) → Counts levels corridors → k ≤ corridors → k * (5 * levels) ≤ 256 * 25
+pub figures_most : (levels corridors k : ℕ) → Counts levels corridors → k ≤ corridors → k * (row_figures * levels) ≤ most_corridors * (row_figures * most_levels)
 figures_most levels corridors k c h =
-    let l : 5 * levels ≤ 25 = omega (arith, c.levels_most) in
+    let l : row_figures * levels ≤ row_figures * most_levels = omega (arith, c.levels_most) in
     mul-le-mul (le_trans h c.corridors_most) l
 
 -- the rows of corridor k end within a sheet of that many corridors

@@ -7,13 +7,10 @@ use Rattle.line_defs.specs.Bounds.{Below}
 use Rattle.line_defs.specs.Grid.{steps}
 use Rattle.line_defs.specs.Loadability.{km160, km320, km480, km640, by_segment, segment_of}
 use Rattle.line_defs.proofs.Between.{in_units}
-use Rattle.line_defs.proofs.Curve.{on_segment}
+use Rattle.line_defs.proofs.Curve.{chosen, on_segment}
 use Rattle.line_sheet.specs.Lanes.{in_knots, start_of}
 use Rattle.line_sheet.proofs.Quotients.{over_by}
 use Rattle.line_sheet.proofs.Lanes.{in_knots_lem, start_in}
-
-abbrev chosen : Bool → Bool → Bool → Bool → ℕ → ℕ → ℕ → ℕ → ℕ → ℕ
-chosen p q r s a b c d e = cond p a (cond q b (cond r c (cond s d e)))
 
 abbrev Shares : ℕ → ℕ → Type 0
 Shares near share = (w : ℕ) → w < 2 ^ 40 → w * share / 2 ^ 64 ≡ w * 1 / near

@@ -62,12 +62,12 @@ unfolding plan_file file_text
 file_text_lem s = read_text_lem s (reading_of s)
 
 -- ---- an answer's counts
-abbrev Within : Reply CorridorPlan → List Float → List ℕ → Type 0
-Within (answered p) added ground = (p.added ≤ length added) × (p.grounds ≤ length ground)
-Within (refused n i) added ground = Unit
+abbrev CountsWithin : Reply CorridorPlan → List Float → List ℕ → Type 0
+CountsWithin (answered p) added ground = (p.added ≤ length added) × (p.grounds ≤ length ground)
+CountsWithin (refused n i) added ground = Unit
 
 abbrev Holds : Outcome → Type 0
-Holds o = Within o.reply o.lent.added o.lent.ground
+Holds o = CountsWithin o.reply o.lent.added o.lent.ground
 
 ending_holds : (e : Ending) (c : Case) (s : Slices) → Holds (outcome_by e c s)
 unfolding outcome_by held summary

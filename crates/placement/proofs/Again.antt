@@ -121,8 +121,8 @@ module _ (w : Network) (net : Net w.n w.m w.a w.b w.km) (sources : List ℕ) (lo
   ready_with_lem = all_turns w net more w.n 0 (reached i nought i start) start_stand (left_most settled (reached i nought i start).mark w.n)
 
 -- ---- two searches that are at their end agree
-abbrev Alike : Float → Float → Type 0
-Alike x y = (le x y ≡ true) × (le y x ≡ true)
+abbrev LeastBoth : Float → Float → Type 0
+LeastBoth x y = (le x y ≡ true) × (le y x ≡ true)
 
 abbrev Unsigned : ℕ → List Float → Type 0
 Unsigned n dist = (j : ℕ) → j < n → T (unsigned (at dist j))
@@ -134,7 +134,7 @@ module _ (w : Network) (net : Net w.n w.m w.a w.b w.km) (sources : List ℕ) whe
       (λ k. (nearest w net sources s p).least (F t j) j (D t j) k) (q.0.kept.known j h)
 
 -- ---- the choice compares distances
-module _ (n : ℕ) (loads d d' : List Float) (g : Unsigned n d) (g' : Unsigned n d') (same : (j : ℕ) → j < n → Alike (at d j) (at d' j)) where
+module _ (n : ℕ) (loads d d' : List Float) (g : Unsigned n d) (g' : Unsigned n d') (same : (j : ℕ) → j < n → LeastBoth (at d j) (at d' j)) where
   reached_same : (j : ℕ) → j < n → lt (at d j) infinity ≡ lt (at d' j) infinity
   reached_same j h = let i = infinity_unsigned.0 in lt_alike (at d j) (at d' j) infinity infinity (g j h) (g' j h) i i (same j h) (le_refl infinity i, le_refl infinity i)
 

@@ -6,6 +6,7 @@ use mathlib.Core.List.{List}
 use mathlib.Core.Path.{◌≡◌, refl, sym, ap, ◌∙◌}
 use lib.Ieee.{Float}
 use lib.ListN.{length, length-replicate}
+use Rattle.loops.proofs.Bools.{no}
 use Rattle.loops.specs.Figures.{at, nought, finite}
 use Rattle.angles_defs.specs.Network.{zeros}
 use Rattle.plan_defs.specs.Constants.{planning_max_rounds}
@@ -64,7 +65,7 @@ module _ (c : Case) where
   observed P led s h = go (expand c.mode) refl
     where
       go : (b : Bool) → expand c.mode ≡ b → On Observed (rounds c P led (round_budget c P led b c.corridors) s)
-      go true e = on_all Observed (λ t f. let z : true ≡ false = sym e ∙ f in cc) (rounds c P led (round_budget c P led true c.corridors) s)
+      go true e = on_all Observed (λ t f. absurd (no f e)) (rounds c P led (round_budget c P led true c.corridors) s)
       go false e = λ f. h
 
   -- ---- what filling begins from

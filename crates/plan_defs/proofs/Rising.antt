@@ -10,6 +10,7 @@ use Rattle.std.proofs.Common.{add-one}
 use borrow.Author.Tests.{ltb-true}
 use lib.Dec.{ltb}
 use lib.ListN.{length, get_or, length-set}
+use Rattle.loops.proofs.Bools.{no}
 use Rattle.loops.specs.Loops.{tab}
 use Rattle.loops.proofs.Tab.{length_tab, get_tab, tab_of}
 use Rattle.angles_defs.specs.Network.{zeros}
@@ -108,7 +109,7 @@ module _ (c : Case) where
         risen = λ i h.
             let a : i < length level = omega (arith, r.size) in
             omega (arith, raised_at level marks i a, raised_le (get_or level i 0) (raise_of (get_or marks i 0)), r.risen i h);
-        unraised = λ f. let z : true ≡ false = sym e ∙ f in cc;
+        unraised = λ f. absurd (no f e);
       }
 
   -- ---- the raises before the rounds

@@ -15,7 +15,7 @@ use lib.Ieee.{Float}
 use lib.ListN.{length, get_or}
 use Rattle.loops.specs.Sorting.{occ}
 use Rattle.loops.specs.Loops.{iter}
-use Rattle.loops.proofs.Bools.{both, and_no}
+use Rattle.loops.proofs.Bools.{both, no, and_no}
 use Rattle.loops.proofs.Inserted.{all_inserted_length}
 use Rattle.plan_defs.specs.Lists.{each}
 use Rattle.plan_defs.specs.Constants.{max_circuits_per_corridor, most_cap}
@@ -124,7 +124,7 @@ module _ (full : ℕ → ℕ) (target : ℕ) (order : List ℕ) where
         go true e = advanced n s h e (below_full full (nth s.cursor) s.filled) refl
         go false e =
             record {
-              inv = record { window = h.window; place = λ x. (let z : true ≡ false = sym x ∙ e in cc) };
+              inv = record { window = h.window; place = λ x. absurd (no e x) };
               fills_it = sym (ap (λ (b : Bool). fill_if b (nth n) s.filled) (stopped s h.window e n));
             }
 

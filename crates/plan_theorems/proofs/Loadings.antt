@@ -61,13 +61,13 @@ unfolding of_bits of_int mul round
 bounds_positive = (tt, tt, tt, tt, tt, tt, tt, tt, tt)
 
 -- a count of 1 to 64 as a figure
-count_checked : first (λ n. inside one most_float (float (suc n))) 64 0 ≡ 64
+count_checked : first (λ n. inside one most_float (float (suc n))) most_initial 0 ≡ most_initial
 unfolding first of_bits of_int round le lt eq
 count_checked = refl
 
 count_inside : (n : ℕ) → 0 < n → n ≤ most_initial → inside one most_float (float n) ≡ true
 count_inside zero p q = absurd (omega arith)
-count_inside (suc n) p q = all_pass (λ m. inside one most_float (float (suc m))) 64 (le_of_eq (sym count_checked)) n (omega arith)
+count_inside (suc n) p q = all_pass (λ m. inside one most_float (float (suc m))) most_initial (le_of_eq (sym count_checked)) n (omega arith)
 
 -- ---- a quotient by such a product is no NaN
 size_real : (x : Float) → finite x ≡ true → T (real (magnitude x))

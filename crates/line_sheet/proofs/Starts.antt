@@ -1,5 +1,5 @@
 -- The start of a lane without a division: a product with 2 ^ 64 / near, the next whole number, is a division by near. Assumes nothing.
-use Rattle.std.proofs.Common.{◌≡◌, ℕ, ◌*◌, ◌/◌, ◌^◌, ◌<◌, Bool, true, false, cond, refl, ap, ◌∙◌, lit<, arith}
+use Rattle.std.proofs.Common.{◌≡◌, ℕ, ◌*◌, ◌/◌, ◌^◌, ◌<◌, Bool, true, false, refl, ap, ◌∙◌, lit<, arith}
 use native.Mathlib.Nat.{mul-one, div-div-eq-div-mul, div-lt_iff_lt-mul}
 use lib.Ieee.{Float, le}
 use lib.Ieee.Positive.{num, den, den_pos}

@@ -14,7 +14,7 @@ use lib.Ieee.{Float, lt, le}
 use lib.ListN.{length, get_or, set, length-set, length-replicate}
 use lib.Seq.{get_or-set_same, get_or-set_other}
 use Rattle.loops.specs.Figures.{at, minus, nought}
-use Rattle.loops.proofs.Bools.{both, no, unequal}
+use Rattle.loops.proofs.Bools.{both, no as clash, unequal}
 use Rattle.loops.proofs.Tab.{length_tab, get_tab}
 use Rattle.angles_defs.specs.Network.{zeros}
 use Rattle.angles_defs.specs.Solve.{solve}
@@ -180,7 +180,7 @@ module _ (c : Case) where
           built = f.built;
           kept = f.kept;
           places = length_mark (top_of c level k - 1) (end_a c k) (end_b c k) z.marks ∙ f.places;
-          still = λ n. absurd (no n (both (promote c.mode) _ e).0);
+          still = λ n. absurd (clash n (both (promote c.mode) _ e).0);
         }
     raise_or_add_sized need k false z h e f =
         let cap = cap_at c k (circuit_at z.build k).kv in

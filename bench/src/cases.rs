@@ -23,6 +23,9 @@ pub struct Shape {
 pub const EXPAND: u8 = 0;
 pub const REINFORCE: u8 = 1;
 pub const OBSERVE: u8 = 2;
+pub const EXPAND_SERVING: u8 = 3;
+pub const REINFORCE_SERVING: u8 = 4;
+pub const OBSERVE_SERVING: u8 = 5;
 
 /// A feeder in Expand.
 pub const FEEDER: Shape = Shape {

@@ -8,7 +8,10 @@ use reference::harness::case_file::write_case;
 use reference::harness::listing::answer_list;
 use reference::watch::{self, Branch};
 
-use crate::cases::{draft, hopeless, Shape, FEEDER, OBSERVE, REINFORCE};
+use crate::cases::{
+    draft, hopeless, Shape, EXPAND_SERVING, FEEDER, OBSERVE, OBSERVE_SERVING, REINFORCE,
+    REINFORCE_SERVING,
+};
 use crate::process::{most_kilobytes, run_program};
 use crate::{least_by, report};
 
@@ -106,6 +109,24 @@ fn drafts() -> Vec<(&'static str, Shape, Vec<usize>, usize)> {
             "256 buses, Reinforce",
             with(|s| (s.mode, s.load) = (REINFORCE, 40.0)),
             vec![CAPACITY],
+            100,
+        ),
+        (
+            "256 buses, ObserveServing",
+            with(|s| s.mode = OBSERVE_SERVING),
+            vec![],
+            100,
+        ),
+        (
+            "256 buses, ReinforceServing",
+            with(|s| (s.mode, s.load) = (REINFORCE_SERVING, 40.0)),
+            vec![CAPACITY],
+            100,
+        ),
+        (
+            "256 buses, ExpandServing",
+            with(|s| s.mode = EXPAND_SERVING),
+            vec![STIFFENING, PROMOTED],
             100,
         ),
         ("256 buses", FEEDER, vec![STIFFENING, PROMOTED], 100),

@@ -3,16 +3,15 @@
 use Prim.Native.Nat.{ℕ, ◌<◌, ◌≤◌}
 use mathlib.Core.Bool.{true}
 use mathlib.Core.List.{List}
-use mathlib.Core.Path.{◌≡◌, refl, sym, ap, ◌∙◌}
+use mathlib.Core.Path.{◌≡◌, sym, ap, ◌∙◌}
 use native.Mathlib.Omega.{arith}
 use borrow.Author.Tests.{eq-eqb, le-leb}
 use lib.ListN.{length}
 use Rattle.loops.specs.Bounds.{most_buses, most_corridors}
 use Rattle.loops.proofs.Bools.{and_of}
-use Rattle.loops.proofs.Scan.{pass_all}
+use Rattle.loops.proofs.Verdicts.{where_all_pass}
 use Rattle.leaders.specs.Leaders.{leaders_of}
-use Rattle.leaders.specs.Operation.{corridor_ok_at, faulty_corridor, check_of, outcome, led_outcome, led_by}
-use Rattle.leaders.proofs.Checks.{passed}
+use Rattle.leaders.specs.Operation.{corridor_ok_at, tests_of, check_of, outcome, led_outcome, led_by}
 use Rattle.std.specs.Prelude.{Result}
 use Rattle.refusal.specs.declared.Refusal.{Refusal}
 use Rattle.refusal.specs.Reply.{no_refusal}
@@ -27,13 +26,12 @@ module _ (buses corridors : ℕ) (a b leader : List ℕ) where
     pub ends : (k : ℕ) → k < corridors → corridor_ok_at buses a b k ≡ true
 
   accepted : Accepted → no_refusal ≡ check_of buses corridors a b (length leader)
-  unfolding faulty_corridor
+  unfolding tests_of
   accepted s =
-      passed buses corridors a b (length leader) (faulty_corridor buses a b) refl
-      (and_of (and_of (eq-eqb _ _ s.a_length) (eq-eqb _ _ s.b_length)) (eq-eqb _ _ s.places))
-      (and_of (le-leb buses most_buses s.few_buses) (le-leb corridors most_corridors s.few_corridors))
-      (let e : faulty_corridor buses a b ≡ length a = pass_all (corridor_ok_at buses a b) (length a) (λ k h. s.ends k (omega (arith, s.a_length))) in
-      omega arith)
+      where_all_pass (tests_of buses corridors a b (length leader)) (
+        and_of (and_of (eq-eqb _ _ s.a_length) (eq-eqb _ _ s.b_length)) (eq-eqb _ _ s.places),
+        (and_of (le-leb buses most_buses s.few_buses) (le-leb corridors most_corridors s.few_corridors), (λ k h. s.ends k (omega (arith, s.a_length)), tt)),
+      )
 
   pub answers : Accepted → (r : Result (Unit {0}) Refusal) (l : List ℕ) → outcome r l ≡ led_outcome buses corridors a b leader → outcome r l ≡ outcome no_refusal (leaders_of buses a b)
   unfolding led_outcome led_by

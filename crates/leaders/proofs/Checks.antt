@@ -4,16 +4,15 @@ use Prim.Native.Nat.{ℕ, ◌<◌, ◌≤◌}
 use mathlib.Core.Bool.{Bool, true, ◌&&◌}
 use mathlib.Core.List.{List}
 use mathlib.Core.Path.{◌≡◌, sym, ap, ◌∙◌, subst}
-use borrow.Author.Tests.{eqb-true, ltb-true, ltb-false, leb-true, le-ltb}
-use lib.Dec.{ltb, leb, eqb}
-use lib.ListN.{length, get_or}
+use borrow.Author.Tests.{eqb-true, ltb-true, leb-true}
+use lib.Dec.{leb, eqb}
+use lib.ListN.{length}
 use Rattle.loops.specs.Bounds.{most_buses, most_corridors}
 use Rattle.loops.proofs.Bools.{both}
-use Rattle.loops.proofs.Chains.{only, after, err_not_ok}
-use Rattle.loops.proofs.Scan.{all_pass}
+use Rattle.loops.proofs.Verdicts.{passes_all}
 use Rattle.refusal.specs.declared.Refusal.{Refusal}
 use Rattle.leaders.specs.Leaders.{leaders_of}
-use Rattle.leaders.specs.Operation.{lengths_ok, counts_ok, corridor_ok_at, faulty_corridor, check_of, Ends, outcome, led_by, led_outcome}
+use Rattle.leaders.specs.Operation.{lengths_ok, counts_ok, tests_of, check_of, Ends, outcome, led_by, led_outcome}
 use Rattle.std.specs.Prelude.{Err}
 use Rattle.refusal.specs.Reply.{no_refusal}
 
@@ -23,10 +22,6 @@ module _ (buses corridors : ℕ) (a b : List ℕ) (places : ℕ) where
 
   abbrev counts : Bool
   counts = counts_ok buses corridors
-
-  pub passed : (k : ℕ) → k ≡ faulty_corridor buses a b → lengths ≡ true → counts ≡ true → length a ≤ k → no_refusal ≡ check_of buses corridors a b places
-  unfolding check_of
-  passed k found e f h = rw (e, f, ← found, le-ltb k (length a) h)
 
   -- the two columns of ends are as long
   pub lengths_even : lengths ≡ true → length b ≡ length a
@@ -42,27 +37,16 @@ pub record Sound (buses : ℕ) (a b : List ℕ) (places : ℕ) : Type 0 where
   pub ends : Ends buses a b
 
 module _ (buses corridors : ℕ) (a b : List ℕ) (places : ℕ) where
-  two_buses : length a ≤ faulty_corridor buses a b → (k : ℕ) → k < length a → (get_or a k 0 < buses) × (get_or b k 0 < buses)
-  unfolding faulty_corridor
-  two_buses h k l =
-      let t = both _ _ (both _ _ (all_pass (corridor_ok_at buses a b) (length a) h k l)).0 in
-      (ltb-true _ _ t.0, ltb-true _ _ t.1)
-
-  sound : lengths buses corridors a b places ≡ true → counts buses corridors a b places ≡ true → length a ≤ faulty_corridor buses a b → Sound buses a b places
-  sound e f h =
-      record {
-        size = eqb-true places buses (both (eqb (length a) corridors && eqb (length b) corridors) (eqb places buses) e).1;
-        few = leb-true buses most_buses (both (leb buses most_buses) (leb corridors most_corridors) f).0;
-        ends = record { even = lengths_even buses corridors a b places e; from = λ k l. (two_buses h k l).0; to = λ k l. (two_buses h k l).1 };
-      }
-
   pub passes : no_refusal ≡ check_of buses corridors a b places → Sound buses a b places
-  unfolding check_of
+  unfolding tests_of
   passes e =
-      let p = only (lengths buses corridors a b places) (sym e) err_not_ok in
-      let q = only (counts buses corridors a b places) p.1 err_not_ok in
-      let r = after (ltb (faulty_corridor buses a b) (length a)) q.1 err_not_ok in
-      sound p.0 q.0 (ltb-false _ _ r.0)
+      let p = passes_all (tests_of buses corridors a b places) (sym e) in
+      let ends = λ (k : ℕ) (l : k < length a). (both _ _ (both _ _ (p.1.1.0 k l)).0) in
+      record {
+        size = eqb-true places buses (both (eqb (length a) corridors && eqb (length b) corridors) (eqb places buses) p.0).1;
+        few = leb-true buses most_buses (both (leb buses most_buses) (leb corridors most_corridors) p.1.0).0;
+        ends = record { even = lengths_even buses corridors a b places p.0; from = λ k l. ltb-true _ _ (ends k l).0; to = λ k l. ltb-true _ _ (ends k l).1 };
+      }
 
 -- ends of as many buses, and of more
 pub ends_of_lem : (m n : ℕ) (a b : List ℕ) → m ≡ n → Ends n a b → Ends m a b

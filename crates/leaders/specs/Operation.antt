@@ -1,7 +1,7 @@
 -- Document 01, refusals of *Leaders*: 1 slice length; 2 count; 6 an end not below the buses, or equal ends. Slices keep their contents.
-use Rattle.std.specs.Prelude.{ℕ, ◌<◌, Bool, not, cond, ◌&&◌, List, ◌≡◌, ltb, leb, eqb, length, get_or, Err, Ok, Result}
+use Rattle.std.specs.Prelude.{ℕ, ◌<◌, Bool, not, ◌&&◌, List, [], ◌∷◌, ◌≡◌, ltb, leb, eqb, length, get_or, Err, Ok, Result}
 use Rattle.loops.specs.Bounds.{most_buses, most_corridors}
-use Rattle.loops.specs.Loops.{first}
+use Rattle.loops.specs.Verdict.{Test, holds, each, verdict}
 use Rattle.refusal.specs.Reply.{Reply, reply_of, no_refusal}
 use Rattle.refusal.specs.declared.Refusal.TheVariants.{Length, Count, Corridor}
 use Rattle.leaders.specs.Leaders.{leaders_of}
@@ -21,17 +21,15 @@ corridor_ok buses a b = (ltb a buses && ltb b buses) && not (eqb a b)
 abbrev pub corridor_ok_at : ℕ → List ℕ → List ℕ → ℕ → Bool
 corridor_ok_at buses a b k = corridor_ok buses (get_or a k 0) (get_or b k 0)
 
--- the first faulty corridor, the number of corridors where there is none
-unfoldable pub faulty_corridor : ℕ → List ℕ → List ℕ → ℕ
-faulty_corridor buses a b = first (corridor_ok_at buses a b) (length a) 0
+unfoldable pub tests_of : ℕ → ℕ → List ℕ → List ℕ → ℕ → List (Test Refusal)
+tests_of buses corridors a b places =
+    holds (lengths_ok buses corridors (length a) (length b) places) Length
+    ∷ holds (counts_ok buses corridors) Count
+    ∷ each (corridor_ok_at buses a b) Corridor (length a)
+    ∷ []
 
-unfoldable pub check_of : ℕ → ℕ → List ℕ → List ℕ → ℕ → Result (Unit {0}) Refusal
-check_of buses corridors a b places =
-    cond (lengths_ok buses corridors (length a) (length b) places)
-    (cond (counts_ok buses corridors)
-    (cond (ltb (faulty_corridor buses a b) (length a)) (Err (Corridor (faulty_corridor buses a b))) no_refusal)
-    (Err Count))
-    (Err Length)
+abbrev pub check_of : ℕ → ℕ → List ℕ → List ℕ → ℕ → Result (Unit {0}) Refusal
+check_of buses corridors a b places = verdict (tests_of buses corridors a b places)
 
 -- ---- the answer, and what the result holds then
 pub record Outcome : Type 0 where

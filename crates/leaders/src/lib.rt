@@ -8,7 +8,7 @@ ghost use Rattle.std.specs.Prelude.{◌≡◌, ◌≤◌, length};
 ghost use Rattle.loops.specs.Bounds.{most_buses};
 ghost use Rattle.loops.specs.Loops.{fault};
 ghost use Rattle.leaders.specs.Leaders.{leaders_of};
-ghost use Rattle.leaders.specs.Operation.{lengths_ok, counts_ok, corridor_ok, corridor_ok_at, Ends, faulty_corridor, check_of, outcome, led_outcome};
+ghost use Rattle.leaders.specs.Operation.{lengths_ok, counts_ok, corridor_ok, corridor_ok_at, Ends, check_of, outcome, led_outcome};
 
 mod forest;
 
@@ -57,7 +57,7 @@ fn faulty_corridor(buses: usize, a: &[u32], b: &[u32]) -> Option<usize>
 }
 
 // The refusals, in order.
-#[tactic(auto, using(loops::proofs::Scan::fault_some, loops::proofs::Scan::fault_passed), unfolding(crate::specs::Operation::check_of, crate::specs::Operation::faulty_corridor))]
+#[tactic(auto, using(loops::proofs::Scan::fault_some, loops::proofs::Scan::fault_passed), unfolding(crate::specs::Operation::tests_of))]
 fn check(buses: usize, corridors: usize, a: &[u32], b: &[u32], places: usize) -> Result<(), Refusal>
     ensures { result ≡ check_of buses corridors a.now b.now places }
 {

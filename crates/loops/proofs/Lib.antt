@@ -4,6 +4,7 @@ pub mod Chains
 pub mod Products
 pub mod Loops
 pub mod Scan
+pub mod Verdicts
 pub mod Tab
 pub mod Parts
 pub mod Rows

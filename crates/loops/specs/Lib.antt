@@ -4,3 +4,4 @@ pub mod Figures
 pub mod Loops
 pub mod Parts
 pub mod Sorting
+pub mod Verdict

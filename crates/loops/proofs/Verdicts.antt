@@ -1,11 +1,10 @@
--- A list of tests: what passes all of it, and the first that fails.
-use Prim.Native.Nat.{ℕ, ◌<◌, ◌≤◌}
+-- A list of tests, each with its refusal: an answer passes all of it, and the first that fails is what is refused.
+use Prim.Native.Nat.{ℕ, ◌<◌}
 use mathlib.Core.Bool.{Bool, true, false, cond}
 use mathlib.Core.List.{List, [], ◌∷◌, ◌++◌}
-use mathlib.Core.Path.{◌≡◌, refl, sym, ap, ◌∙◌}
-use native.Mathlib.Nat.{le_refl}
+use mathlib.Core.Path.{◌≡◌, refl}
 use native.Mathlib.Omega.{arith}
-use borrow.Author.Tests.{ltb-false, ltb-true, lt-ltb, le-ltb}
+use borrow.Author.Tests.{ltb-false, lt-ltb, le-ltb}
 use lib.Dec.{ltb}
 use Rattle.std.specs.Prelude.{Err, Ok, Result, ⊤}
 use Rattle.loops.specs.Loops.{first}

@@ -1,9 +1,7 @@
 -- What acceptance gives: every length, every count within its bounds, every row of every table sound; and that of the ends, the levels and the sheet's rows.
--- Each test of `case_fault` is taken apart; a refusal is no `none`.
 use Prim.Native.Nat.{ℕ, zero, suc, ◌+◌, ◌*◌, ◌≤◌, ◌<◌}
 use mathlib.Core.Bool.{Bool, true, false, cond, ◌&&◌}
 use mathlib.Core.List.{List}
-use mathlib.Core.Option.{Option, none}
 use mathlib.Core.Path.{◌≡◌, refl, sym, ◌∙◌, subst}
 use native.Mathlib.Omega.{arith}
 use borrow.Author.Tests.{ltb-true, ltb-false, leb-true, eqb-true}
@@ -11,21 +9,18 @@ use lib.Dec.{ltb, leb, eqb}
 use lib.ListN.{length, get_or, get_or-eq_default}
 use lib.Ieee.{lt, le}
 use Rattle.loops.specs.Figures.{at, nought, one, half, thousand, ten_thousand, million, inside}
-use Rattle.loops.specs.Loops.{first}
 use Rattle.loops.proofs.Bools.{both}
-use Rattle.loops.proofs.Chains.{only, after, some_not_none}
 use Rattle.loops.proofs.Rows.{row_fits}
-use Rattle.loops.proofs.Scan.{all_pass}
 use Rattle.loops.proofs.Tab.{get_tab}
-use Rattle.refusal.specs.declared.Refusal.{Refusal}
-use Rattle.refusal.specs.declared.Refusal.TheVariants.{Level, Bus, Generator, Corridor, Row}
+use Rattle.loops.proofs.Verdicts.{passes_all}
+use Rattle.refusal.specs.Reply.{no_refusal}
 use Rattle.sheets.specs.Sheet.{row_figures, row_place, line_index, line_corridor}
 use Rattle.sheets.proofs.Layouts.{parts, row_inside as inside_sheet}
 use Rattle.leaders.specs.Operation.{Ends, corridor_ok}
 use Rattle.dispatch_defs.specs.Units.{unit_ok}
 use Rattle.plan_defs.specs.Constants.{most_buses, most_corridors, most_generators, most_levels, most_target, most_initial, most_cap}
 use Rattle.plan_defs.specs.Case.{Case, levels, load_of, end_a, end_b, own_or, own_cap, higher_a, from_of, to_of, first_levels, row_at}
-use Rattle.plan_defs.specs.Accept.{lengths_ok, counts_ok, level_ok, bus_ok, generator_ok, corridor_sound, row_ok, row_sound, first_fault, tables_fault, case_fault}
+use Rattle.plan_defs.specs.Accept.{lengths_ok, counts_ok, level_ok, bus_ok, generator_ok, corridor_sound, row_ok, row_sound, tables_tests, case_tests, case_check}
 
 -- where an own cap and the usual one are at most 6, so is the one that is taken
 pub own_few : (own usual : ℕ) → own ≤ most_cap → usual ≤ most_cap → own_or own usual ≤ most_cap
@@ -68,11 +63,6 @@ pub record Accepted (c : Case) (target : ℕ) : Type 0 where
   pub generator_ok_holds : (k : ℕ) → k < c.generators → generator_ok c k ≡ true
   pub corridor_ok_holds : (k : ℕ) → k < c.corridors → corridor_sound c k ≡ true
   pub row_ok_holds : (i : ℕ) → i < c.corridors * levels c → row_ok c i ≡ true
-
--- ---- one table after another
-pub passes : (ok : ℕ → Bool) (fault : ℕ → Refusal) (n : ℕ) (next : Option Refusal) → first_fault ok fault n next ≡ none
-    → ((i : ℕ) → i < n → ok i ≡ true) × (next ≡ none)
-passes ok fault n next h = let p = after (ltb (first ok n 0) n) h some_not_none in (all_pass ok n (ltb-false _ _ p.0), p.1)
 
 module _ (c : Case) where
   pub columns_of_lem : lengths_ok c ≡ true → Columns c
@@ -133,24 +123,19 @@ module _ (c : Case) where
         low_target = leb-true target most_target h₅.1;
       }
 
-  pub accepted : (target : ℕ) → case_fault c target ≡ none → Accepted c target
-  unfolding case_fault tables_fault
+  pub accepted : (target : ℕ) → case_check c target ≡ no_refusal → Accepted c target
+  unfolding case_tests tables_tests
   accepted target h =
-      let x = only (lengths_ok c) h some_not_none in
-      let y = only (counts_ok c target) x.1 some_not_none in
-      let l = passes (level_ok c) Level (levels c) _ y.1 in
-      let u = passes (bus_ok c) Bus c.buses _ l.1 in
-      let g = passes (generator_ok c) Generator c.generators _ u.1 in
-      let k = passes (corridor_sound c) Corridor c.corridors _ g.1 in
-      let w = passes (row_ok c) Row (c.corridors * levels c) _ k.1 in
+      let p = passes_all (case_tests c target) h in
+      let r = p.1.1 in
       record {
-        columns = columns_of_lem x.0;
-        counts = counts_of target y.0;
-        level_ok_holds = l.0;
-        bus_ok_holds = u.0;
-        generator_ok_holds = g.0;
-        corridor_ok_holds = k.0;
-        row_ok_holds = w.0;
+        columns = columns_of_lem p.0;
+        counts = counts_of target p.1.0;
+        level_ok_holds = r.0;
+        bus_ok_holds = r.1.0;
+        generator_ok_holds = r.1.1.0;
+        corridor_ok_holds = r.1.1.1.0;
+        row_ok_holds = r.1.1.1.1.0;
       }
 
 -- ---- what the tables' tests say

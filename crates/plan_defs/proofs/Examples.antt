@@ -23,7 +23,7 @@ use Rattle.plan_defs.specs.Fill.{fill}
 use Rattle.plan_defs.specs.Stiffen.{Budget, hv_budget, stiffen_one, stiffen_from, Gain, larger, batch}
 use Rattle.plan_defs.specs.Plan.{Plan, planned}
 use Rattle.plan_defs.specs.Outcome.{Slices, Outcome, slices, plan_corridors}
-use Rattle.plan_defs.specs.Preview.{kept_as, lengths_ok, kept_fault, preview_fault, refilled, preview, Outcome as Previewed}
+use Rattle.plan_defs.specs.Preview.{kept_as, lengths_ok, preview_tests, refilled, preview, Outcome as Previewed}
 use Rattle.plan_defs.specs.Listing.{bits_of, lines, listing_of}
 use Rattle.plan_defs.specs.declared.CircuitDesign.{CircuitDesign}
 use Rattle.plan_defs.proofs.Unfolded.{whole_plan}
@@ -230,7 +230,7 @@ pub previews :
     ≡ (1 ∷ 4 ∷ 2 ∷ []) ∷ (3 ∷ 4 ∷ 3 ∷ [])
     ∷ (2 ∷ 4 ∷ 2 ∷ []) ∷ (1 ∷ 4 ∷ 3 ∷ [])
     ∷ (4 ∷ 64 ∷ 4 ∷ []) ∷ []
-unfolding whole_plan preview preview_fault kept_fault lengths_ok refilled
+unfolding whole_plan preview preview_tests lengths_ok refilled
 previews = refl
 
 -- The refusals, each where the next would be due too: a slice of two places; a target past 65,536; two modes that do not fill; the lower of two corridors
@@ -244,14 +244,14 @@ pub preview_refusals :
     ∷ (18 ∷ 0 ∷ 7 ∷ 7 ∷ 7 ∷ []) ∷ (18 ∷ 0 ∷ 7 ∷ 7 ∷ 7 ∷ [])
     ∷ (6 ∷ 1 ∷ 7 ∷ 7 ∷ 7 ∷ []) ∷ (6 ∷ 2 ∷ 7 ∷ 7 ∷ 7 ∷ [])
     ∷ (30 ∷ 1 ∷ 7 ∷ 7 ∷ 7 ∷ []) ∷ (30 ∷ 2 ∷ 7 ∷ 7 ∷ 7 ∷ []) ∷ []
-unfolding whole_plan preview preview_fault kept_fault lengths_ok refilled
+unfolding whole_plan preview preview_tests lengths_ok refilled
 preview_refusals = refl
 
 -- With own caps of 2 and 6 the first stops at 2 and the last goes to 6; a cap above 6 is a fault of its corridor, beside the count's.
 pub previews_capped :
     previewed_with Expand (1 ∷ 4 ∷ 1 ∷ []) (0 ∷ 1 ∷ 2 ∷ []) (2 ∷ 0 ∷ 6 ∷ []) 3 20 ∷ previewed_with Expand (1 ∷ 4 ∷ 0 ∷ []) (0 ∷ 1 ∷ 2 ∷ []) (0 ∷ 7 ∷ 0 ∷ []) 3 20 ∷ []
     ≡ (2 ∷ 4 ∷ 6 ∷ []) ∷ (6 ∷ 1 ∷ 7 ∷ 7 ∷ 7 ∷ []) ∷ []
-unfolding whole_plan preview preview_fault kept_fault lengths_ok refilled
+unfolding whole_plan preview preview_tests lengths_ok refilled
 previews_capped = refl
 
 -- ---- K4: the pass after a component's dispatch, MW by their bits; every unit from 0, at a cost of c1

@@ -3,9 +3,9 @@
 use Prim.Native.Nat.{ℕ}
 use mathlib.Core.List.{List, [], ◌∷◌, map}
 use mathlib.Core.Path.{◌≡◌, refl}
-use mathlib.Core.Option.{Option, none, some}
 use lib.ListN.{get_or}
 use lib.Ieee.{Float}
+use Rattle.std.specs.Prelude.{Err, Ok, Result}
 use Rattle.loops.specs.Figures.{nought, one, hundred}
 use Rattle.mode.specs.declared.PlanMode.{PlanMode}
 use Rattle.mode.specs.declared.PlanMode.TheVariants.{Expand, Reinforce, Observe, ExpandServing, ReinforceServing, ObserveServing}
@@ -13,7 +13,7 @@ use Rattle.refusal.specs.Number.{number_of, index_of}
 use Rattle.refusal.specs.declared.Refusal.{Refusal}
 use Rattle.plan_defs.specs.TopUp.{by_cost, top_up}
 use Rattle.plan_defs.specs.Case.{Case, surveyed}
-use Rattle.plan_defs.specs.Accept.{case_fault}
+use Rattle.plan_defs.specs.Accept.{case_check}
 use Rattle.plan_defs.specs.Design.{redesign}
 use Rattle.plan_defs.specs.Fill.{fill}
 use Rattle.plan_defs.specs.Plan.{planned}
@@ -53,11 +53,11 @@ began count = surveyed Expand 2 1 0 0 1 (whole 138 ∷ []) (0 ∷ 0 ∷ []) (nou
     (nought ∷ one ∷ nought ∷ hundred ∷ nought ∷ [])
 
 -- a refusal's number and index; nothing where there is none
-abbrev pub refusal_of : Option Refusal → List ℕ
-refusal_of none = []
-refusal_of (some f) = number_of f ∷ index_of f ∷ []
+abbrev pub refusal_of : Result (Unit {0}) Refusal → List ℕ
+refusal_of (Ok tt) = []
+refusal_of (Err f) = number_of f ∷ index_of f ∷ []
 
-pub begun_with : map (λ count. refusal_of (case_fault (began count) 0)) (0 ∷ 7 ∷ 64 ∷ 65 ∷ []) ≡ [] ∷ [] ∷ [] ∷ (6 ∷ 0 ∷ []) ∷ []
+pub begun_with : map (λ count. refusal_of (case_check (began count) 0)) (0 ∷ 7 ∷ 64 ∷ 65 ∷ []) ≡ [] ∷ [] ∷ [] ∷ (6 ∷ 0 ∷ []) ∷ []
 unfolding whole_plan
 begun_with = refl
 

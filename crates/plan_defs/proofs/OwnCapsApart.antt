@@ -7,7 +7,7 @@ use Rattle.loops.specs.Figures.{nought}
 use Rattle.mode.specs.declared.PlanMode.{PlanMode}
 use Rattle.mode.specs.declared.PlanMode.TheVariants.{Expand, Reinforce, Observe}
 use Rattle.plan_defs.specs.Case.{Case}
-use Rattle.plan_defs.specs.Accept.{case_fault}
+use Rattle.plan_defs.specs.Accept.{case_check}
 use Rattle.plan_defs.specs.Design.{design_circuits}
 use Rattle.plan_defs.specs.Build.{built}
 use Rattle.plan_defs.specs.Size.{Sizing, size_all}
@@ -51,7 +51,7 @@ unfolding whole_plan
 caps_filled = refl
 
 -- A cap of 7 is refused.
-pub caps_accepted : map (λ cap. refusal_of (case_fault (valley Expand 1 cap) 4)) (0 ∷ 1 ∷ 6 ∷ 7 ∷ []) ≡ [] ∷ [] ∷ [] ∷ (6 ∷ 0 ∷ []) ∷ []
+pub caps_accepted : map (λ cap. refusal_of (case_check (valley Expand 1 cap) 4)) (0 ∷ 1 ∷ 6 ∷ 7 ∷ []) ≡ [] ∷ [] ∷ [] ∷ (6 ∷ 0 ∷ []) ∷ []
 unfolding whole_plan
 caps_accepted = refl
 

@@ -2,16 +2,16 @@
 -- first, a corridor each.
 use Prim.Native.Nat.{ℕ, ◌<◌}
 use mathlib.Core.List.{List, [], ◌∷◌, ◌++◌, map}
-use mathlib.Core.Option.{some}
 use mathlib.Core.Path.{◌≡◌, refl}
 use borrow.Author.Tests.{lt-ltb}
 use lib.Ieee.{Float}
+use Rattle.std.specs.Prelude.{Err}
 use Rattle.loops.specs.Figures.{nought, half, one, hundred, decimal}
 use Rattle.mode.specs.declared.PlanMode.TheVariants.{Observe}
 use Rattle.refusal.specs.declared.Refusal.TheVariants.{Row}
 use Rattle.sheets.specs.Sheet.{row_place}
 use Rattle.plan_defs.specs.Case.{Case, row_from, rows_of, surveyed, row_at}
-use Rattle.plan_defs.specs.Accept.{case_fault}
+use Rattle.plan_defs.specs.Accept.{case_check}
 use Rattle.plan_defs.specs.Listing.{bits_of}
 use Rattle.plan_defs.proofs.Unfolded.{whole_plan}
 
@@ -44,7 +44,7 @@ rows_by_level = refl
 
 -- The second row is corridor 1's at level 0, the third corridor 0's at level 1: 7 has the index corridor × levels + level, and of both the lower.
 pub refused_by_corridor :
-    case_fault (laid_out 1 0 3 4 5 6) 0 ∷ case_fault (laid_out 1 2 0 4 5 6) 0 ∷ case_fault (laid_out 1 0 0 4 5 6) 0 ∷ []
-    ≡ some (Row 3) ∷ some (Row 1) ∷ some (Row 1) ∷ []
+    case_check (laid_out 1 0 3 4 5 6) 0 ∷ case_check (laid_out 1 2 0 4 5 6) 0 ∷ case_check (laid_out 1 0 0 4 5 6) 0 ∷ []
+    ≡ Err (Row 3) ∷ Err (Row 1) ∷ Err (Row 1) ∷ []
 unfolding whole_plan
 refused_by_corridor = refl

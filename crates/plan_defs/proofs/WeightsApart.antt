@@ -9,7 +9,7 @@ use lib.Ieee.{Float, binary64, of_bits, nan}
 use Rattle.loops.specs.Figures.{nought, half, one, hundred, thousand, decimal}
 use Rattle.mode.specs.declared.PlanMode.TheVariants.{Observe}
 use Rattle.plan_defs.specs.Case.{Case}
-use Rattle.plan_defs.specs.Accept.{case_fault}
+use Rattle.plan_defs.specs.Accept.{case_check}
 use Rattle.plan_defs.specs.Dispatch.{demand_of, injection_mw}
 use Rattle.plan_defs.specs.Design.{bank_for}
 use Rattle.plan_defs.specs.Listing.{bits_of}
@@ -40,7 +40,7 @@ unfolding whole_plan
 drawn_by_load = refl
 
 abbrev said : Float → List Float → List ℕ
-said reading weight = refusal_of (case_fault (read Observe reading weight) 0)
+said reading weight = refusal_of (case_check (read Observe reading weight) 0)
 
 -- Accepted: a product of 1e6; −0 as a reading; a product that is too small for binary64.
 pub bounds :

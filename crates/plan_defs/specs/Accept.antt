@@ -1,10 +1,9 @@
 -- Document 01, refusals of *Planning*: 1 length; 2 count; 3 ladder; 4 bus; 5 generator; 6 corridor; 7 sheet row (index: corridor × levels + level).
 -- A case that they pass is accepted. A NaN fails every test.
-use Rattle.std.specs.Prelude.{ℕ, ◌+◌, ◌*◌, Bool, cond, ◌&&◌, ◌||◌, leb, ltb, eqb, length, get_or}
-use Rattle.std.proofs.Math.Option.{Option, none, some}
+use Rattle.std.specs.Prelude.{ℕ, ◌+◌, ◌*◌, Bool, ◌&&◌, ◌||◌, List, [], ◌∷◌, leb, ltb, eqb, length, get_or, Result}
 use Rattle.std.specs.Float.Ieee.{eq, lt, le}
 use Rattle.loops.specs.Figures.{plus, at, nought, one, half, ten_thousand, million, thousandth, finite, inside}
-use Rattle.loops.specs.Loops.{first}
+use Rattle.loops.specs.Verdict.{Test, holds, each, verdict}
 use Rattle.sheets.specs.Sheet.{row_figures, line_corridor, line_level}
 use Rattle.loads.specs.Load.{load_ok}
 use Rattle.refusal.specs.declared.Refusal.{Refusal}
@@ -80,21 +79,19 @@ row_sound w =
 unfoldable pub row_ok : Case → ℕ → Bool
 row_ok c i = row_sound (row_at c (line_corridor (levels c) i) (line_level (levels c) i))
 
--- ---- the first refusal, of the lowest faulty index
-abbrev pub indexed : (ℕ → Refusal) → ℕ → ℕ → Option Refusal → Option Refusal
-indexed fault i n next = cond (ltb i n) (some (fault i)) next
+-- ---- in order; of a table's rows the lowest that is faulty
+unfoldable pub tables_tests : Case → ℕ → List (Test Refusal)
+tables_tests c target =
+    holds (counts_ok c target) Count
+    ∷ each (level_ok c) Level (levels c)
+    ∷ each (bus_ok c) Bus c.buses
+    ∷ each (generator_ok c) Generator c.generators
+    ∷ each (corridor_sound c) Corridor c.corridors
+    ∷ each (row_ok c) SheetRow (c.corridors * levels c)
+    ∷ []
 
-abbrev pub first_fault : (ℕ → Bool) → (ℕ → Refusal) → ℕ → Option Refusal → Option Refusal
-first_fault ok fault n next = indexed fault (first ok n 0) n next
+unfoldable pub case_tests : Case → ℕ → List (Test Refusal)
+case_tests c target = holds (lengths_ok c) Length ∷ tables_tests c target
 
-unfoldable pub tables_fault : Case → Option Refusal
-tables_fault c =
-    first_fault (level_ok c) Level (levels c)
-    (first_fault (bus_ok c) Bus c.buses
-    (first_fault (generator_ok c) Generator c.generators
-    (first_fault (corridor_sound c) Corridor c.corridors
-    (first_fault (row_ok c) SheetRow (c.corridors * levels c)
-    none))))
-
-unfoldable pub case_fault : Case → ℕ → Option Refusal
-case_fault c target = cond (lengths_ok c) (cond (counts_ok c target) (tables_fault c) (some Count)) (some Length)
+abbrev pub case_check : Case → ℕ → Result (Unit {0}) Refusal
+case_check c target = verdict (case_tests c target)

@@ -1,11 +1,10 @@
 -- The defined plan: `plan_corridors` as its stages, one after another.
-use Rattle.std.specs.Prelude.{ℕ, Bool, not, ◌||◌, List, eqb, replicate, Float}
-use Rattle.std.proofs.Math.Option.{Option, none, some}
+use Rattle.std.specs.Prelude.{ℕ, Bool, not, ◌||◌, List, eqb, replicate, Float, Err, Ok, Result}
 use Rattle.angles_defs.specs.Network.{zeros}
 use Rattle.refusal.specs.declared.Refusal.{Refusal}
 use Rattle.plan_defs.specs.Stage.{Stage, stopped, going, onward}
 use Rattle.plan_defs.specs.Case.{Case, expand, first_levels, lower_bounds}
-use Rattle.plan_defs.specs.Accept.{case_fault}
+use Rattle.plan_defs.specs.Accept.{case_check}
 use Rattle.plan_defs.specs.Components.{component, grounds_of}
 use Rattle.plan_defs.specs.Dispatch.{dispatch_of, injections}
 use Rattle.plan_defs.specs.Design.{design_circuits}
@@ -159,9 +158,9 @@ abbrev pub ending_on : Stage Plan → Ending
 ending_on (stopped f) = unanswered f
 ending_on (going p) = planned p
 
-abbrev pub ending_by : Option Refusal → Case → ℕ → Ending
-ending_by (some f) c target = unaccepted f
-ending_by none c target = ending_on (plan_for c target)
+abbrev pub ending_by : Result (Unit {0}) Refusal → Case → ℕ → Ending
+ending_by (Err f) c target = unaccepted f
+ending_by (Ok tt) c target = ending_on (plan_for c target)
 
 unfoldable pub ending_of : Case → ℕ → Ending
-ending_of c target = ending_by (case_fault c target) c target
+ending_of c target = ending_by (case_check c target) c target

@@ -2,16 +2,15 @@
 -- filling, the filling order and the corridors' own caps that the plan keeps. Refusals, in order, which touch nothing: 1; 2; 18 the mode does not fill;
 -- 6 a kept count is outside 1 to 64 or a cap above 6 (index: the corridor); 30 the order does not name each corridor once (index: the first place that
 -- names none, or one again).
-use Rattle.std.specs.Prelude.{ℕ, Bool, not, cond, ◌&&◌, List, leb, ltb, eqb, length, get_or, Err, Result}
-use Rattle.std.proofs.Math.Option.{Option, none, some}
+use Rattle.std.specs.Prelude.{ℕ, Bool, not, ◌&&◌, List, [], ◌∷◌, leb, ltb, eqb, length, get_or, Err, Ok, Result}
 use Rattle.loops.specs.Loops.{first}
+use Rattle.loops.specs.Verdict.{Test, holds, each, verdict}
 use Rattle.mode.specs.declared.PlanMode.{PlanMode}
 use Rattle.refusal.specs.Reply.{Reply, reply_of, no_refusal}
 use Rattle.refusal.specs.declared.Refusal.{Refusal}
 use Rattle.refusal.specs.declared.Refusal.TheVariants.{Length, Count, Corridor, Mode, Order}
 use Rattle.plan_defs.specs.Constants.{most_corridors, most_target, most_initial, most_cap}
 use Rattle.plan_defs.specs.Case.{promote, full_of}
-use Rattle.plan_defs.specs.Accept.{first_fault}
 use Rattle.plan_defs.specs.Fill.{unfilled, fill_rounds, fill_turns}
 
 -- what a plan keeps of filling
@@ -48,12 +47,17 @@ abbrev pub place_ok : Kept → ℕ → Bool
 place_ok p j = ltb (get_or p.order j 0) p.corridors && first_named p.order j
 
 -- ---- all of them, in order
-unfoldable pub kept_fault : Kept → Option Refusal
-kept_fault p = first_fault (count_ok p) Corridor p.corridors (first_fault (place_ok p) Order p.corridors none)
+unfoldable pub preview_tests : Kept → ℕ → ℕ → List (Test Refusal)
+preview_tests p target places =
+    holds (lengths_ok p places) Length
+    ∷ holds (counts_ok p target) Count
+    ∷ holds (promote p.mode) Mode
+    ∷ each (count_ok p) Corridor p.corridors
+    ∷ each (place_ok p) Order p.corridors
+    ∷ []
 
-unfoldable pub preview_fault : Kept → ℕ → ℕ → Option Refusal
-preview_fault p target places =
-    cond (lengths_ok p places) (cond (counts_ok p target) (cond (promote p.mode) (kept_fault p) (some Mode)) (some Count)) (some Length)
+abbrev pub preview_check : Kept → ℕ → ℕ → Result (Unit {0}) Refusal
+preview_check p target places = verdict (preview_tests p target places)
 
 -- ---- the circuits with a target
 unfoldable pub refilled : Kept → ℕ → List ℕ
@@ -67,9 +71,9 @@ pub record Outcome : Type 0 where
 abbrev pub outcome : Result (Unit {0}) Refusal → List ℕ → Outcome
 outcome r circuits = record { reply = reply_of r; circuits = circuits }
 
-abbrev pub preview_by : Option Refusal → Kept → ℕ → List ℕ → Outcome
-preview_by (some f) p target lent = outcome (Err f) lent
-preview_by none p target lent = outcome no_refusal (refilled p target)
+abbrev pub preview_by : Result (Unit {0}) Refusal → Kept → ℕ → List ℕ → Outcome
+preview_by (Err f) p target lent = outcome (Err f) lent
+preview_by (Ok tt) p target lent = outcome no_refusal (refilled p target)
 
 unfoldable pub preview : Kept → ℕ → List ℕ → Outcome
-preview p target lent = preview_by (preview_fault p target (length lent)) p target lent
+preview p target lent = preview_by (preview_check p target (length lent)) p target lent

@@ -1,26 +1,27 @@
 -- Two tests of equality agree where each equation follows from the other; what the rows of the tables have; and the lengths, tested table by table.
 use Prim.Native.Nat.{ℕ, ◌+◌, ◌*◌, ◌<◌}
-use mathlib.Core.Bool.{Bool, true, false, cond, ◌&&◌, and_assoc, and-true}
+use mathlib.Core.Bool.{Bool, true, false, ◌&&◌, and_assoc, and-true}
 use mathlib.Core.List.{List, [], ◌∷◌}
-use mathlib.Core.Option.{some}
-use mathlib.Core.Path.{◌≡◌, refl, sym, ap, ◌∙◌}
+use mathlib.Core.Path.{◌≡◌, refl, sym, ◌∙◌}
 use borrow.Author.Tests.{eqb-true, eq-eqb}
 use lib.Dec.{eqb}
 use lib.ListN.{length}
 use lib.Ieee.{Float, nan}
 use Rattle.loops.specs.Figures.{at}
+use Rattle.loops.specs.Verdict.{holds, verdict}
 use Rattle.loops.proofs.Bools.{both, unequal}
 use Rattle.loops.proofs.Tab.{length_tab, get_tab}
+use Rattle.loops.proofs.Verdicts.{first_that_fails}
 use Rattle.loads.specs.Load.{load_by, weighed, loads_of}
 use Rattle.sheets.proofs.Layouts.{some_row, line_corridor_lem, line_level_lem}
 use Rattle.refusal.specs.declared.Refusal.{Refusal}
-use Rattle.refusal.specs.declared.Refusal.TheVariants.{Length, Count}
+use Rattle.refusal.specs.declared.Refusal.TheVariants.{Length}
 use Rattle.sheets.specs.Sheet.{row_figures, line_place, line_corridor, line_level}
 use Rattle.plan_defs.specs.Case.{Case, row_from, rows_of}
-use Rattle.plan_defs.specs.Accept.{lengths_ok, counts_ok, tables_fault, case_fault}
+use Rattle.plan_defs.specs.Accept.{lengths_ok, tables_tests, case_tests}
 use Rattle.plan_defs.proofs.Rows.{row_from_lem}
 use Rattle.plan_defs.proofs.Accepted.{columns_of_lem}
-use Rattle.acceptance.specs.Check.{Tables, tabled, Columns, sized, answer_of, check_of}
+use Rattle.acceptance.specs.Check.{Tables, tabled, Columns, sized, call_tests, check_of}
 use Rattle.std.specs.Prelude.{Err, Result}
 
 -- ---- a bus's load is the product of its own figures
@@ -57,18 +58,14 @@ module _ (t : Tables) where
 
   -- ---- the whole check
   module _ (target : ℕ) (x fits : Bool) (ex : x ≡ lengths_ok given) where
-    -- the answer by whether the slices fit, the lengths and the counts
-    abbrev answer : Bool → Bool → Bool → Result (Unit {0}) Refusal
-    answer v u w = answer_of (cond v (cond u (cond w (tables_fault given) (some Count)) (some Length)) (some Length))
-
     pub length_refused : (x && fits) ≡ false → Err Length ≡ check_of fits given target
-    unfolding check_of case_fault
-    length_refused e = go x fits e ex
+    unfolding call_tests case_tests
+    length_refused e = go x fits e ex refl
       where
-        go : (u v : Bool) → (u && v) ≡ false → u ≡ lengths_ok given → Err Length ≡ answer v (lengths_ok given) (counts_ok given target)
-        go u false q f = refl
-        go false true q f = ap (λ (b : Bool). answer true b (counts_ok given target)) f
-        go true true q f = absurd (unequal cc)
+        go : (u v : Bool) → (u && v) ≡ false → u ≡ lengths_ok given → v ≡ fits → Err Length ≡ check_of fits given target
+        go u false q f g = first_that_fails [] (holds fits Length) (case_tests given target) Length tt (sym g, refl)
+        go false true q f g = first_that_fails (holds fits Length ∷ []) (holds (lengths_ok given) Length) (tables_tests given target) Length (sym g, tt) (sym f, refl)
+        go true true q f g = absurd (unequal cc)
 
     module _ (passed : (x && fits) ≡ true) where
       lengths : lengths_ok given ≡ true
@@ -79,8 +76,6 @@ module _ (t : Tables) where
           let k = columns_of_lem given lengths in
           record { ladder = k.ladder; tier = k.tier; reading = k.reading; weight = k.weight; bus = k.bus; slack = k.slack; pmin = k.pmin; pmax = k.pmax; c1 = k.c1; c2 = k.c2; a = k.a; b = k.b; km = k.km; share = k.share; cap = k.cap; sheet = k.sheet; initial = k.circuits }
 
-      pub answered : (r : Result (Unit {0}) Refusal) → r ≡ answer true true (counts_ok given target) → r ≡ check_of fits given target
-      unfolding check_of case_fault
-      answered r e =
-          e ∙ ap (λ (b : Bool). answer true b (counts_ok given target)) (sym lengths)
-          ∙ ap (λ (b : Bool). answer b (lengths_ok given) (counts_ok given target)) (sym (both x fits passed).1)
+      pub answered : (r : Result (Unit {0}) Refusal) → r ≡ verdict (tables_tests given target) → r ≡ check_of fits given target
+      unfolding call_tests case_tests
+      answered r e = rw (e, (both x fits passed).1, lengths)

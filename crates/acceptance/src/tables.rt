@@ -1,11 +1,10 @@
 // The tables of a case, and the refusals 2 to 7: the counts, and the rows of one table after another.
-ghost use Rattle.std.specs.Prelude.{cond, ◌≡◌, ◌+◌, ◌*◌, ◌<◌};
-ghost use Rattle.std.proofs.Math.Option.{some};
+ghost use Rattle.std.specs.Prelude.{◌≡◌, ◌+◌, ◌*◌, ◌<◌};
 ghost use Rattle.loops.specs.Loops.{fault};
-ghost use Rattle.refusal.specs.declared.Refusal.TheVariants.{Count as CountRefusal};
+ghost use Rattle.loops.specs.Verdict.{verdict};
 ghost use Rattle.plan_defs.specs.Case.{levels, row_of};
-ghost use Rattle.plan_defs.specs.Accept.{counts_ok, level_ok, bus_ok, generator_ok, corridor_sound, row_sound, row_ok, tables_fault};
-ghost use Rattle.acceptance.specs.Check.{Tables, tables_of, tabled, Columns, answer_of};
+ghost use Rattle.plan_defs.specs.Accept.{counts_ok, level_ok, bus_ok, generator_ok, corridor_sound, row_sound, row_ok, tables_tests};
+ghost use Rattle.acceptance.specs.Check.{Tables, tables_of, tabled, Columns};
 
 use dispatch_defs::unit_ok;
 use leaders::corridor_ok;
@@ -175,9 +174,9 @@ impl<'a> CaseTables<'a> {
     }
 
     // The refusals 2 to 7, in order.
-    #[tactic(auto, using(loops::proofs::Scan::fault_some, loops::proofs::Scan::fault_passed), unfolding(plan_defs::specs::Accept::tables_fault))]
+    #[tactic(auto, using(loops::proofs::Scan::fault_some, loops::proofs::Scan::fault_passed), unfolding(plan_defs::specs::Accept::tables_tests))]
     pub fn check(&self, target: u32) -> Result<(), Refusal>
-        ensures { result ≡ answer_of (cond (counts_ok (tabled self.now) target) (tables_fault (tabled self.now)) (some CountRefusal)) }
+        ensures { result ≡ verdict (tables_tests (tabled self.now) target) }
     {
         if !self.counts_ok(target) {
             return Err(Refusal::Count);

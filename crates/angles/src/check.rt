@@ -78,7 +78,7 @@ impl<'a> Request<'a> {
     }
 
     // The first refusal in order.
-    #[tactic(auto, using(loops::proofs::Scan::fault_some, loops::proofs::Scan::fault_passed, angles_defs::proofs::Answers::lengths_of), unfolding(angles_defs::specs::Operation::check_of))]
+    #[tactic(auto, using(loops::proofs::Scan::fault_some, loops::proofs::Scan::fault_passed, angles_defs::proofs::Answers::lengths_of), unfolding(angles_defs::specs::Operation::tests_of))]
     pub fn check(&self, res: usize, work: usize) -> Result<(), Refusal>
         ensures { result ≡ check_of self.now res work }
     {

@@ -1,12 +1,11 @@
 -- What a caller may take from `dc_angles`: which requests pass, what an answer holds, and that it depends on nothing but the request.
--- `check_of` is taken apart test by test; the angles' laws are the solve's.
+-- A request is sound where it passes all tests; the angles' laws are the solve's.
 use Prim.Native.Nat.{ℕ, ◌*◌, ◌+◌, ◌<◌, ◌≤◌}
 use mathlib.Core.Bool.{Bool, true, false, ◌&&◌}
-use mathlib.Core.Path.{◌≡◌, refl}
+use mathlib.Core.Path.{◌≡◌, refl, sym}
 use mathlib.Core.List.{List}
 use Rattle.std.specs.Prelude.{Err, Ok, Result}
-use native.Mathlib.Omega.{arith}
-use borrow.Author.Tests.{eqb-true, eq-eqb, leb-true, le-leb, ltb-true, lt-ltb, ltb-false, le-ltb}
+use borrow.Author.Tests.{eqb-true, eq-eqb, leb-true, le-leb, ltb-true, lt-ltb, ltb-false}
 use lib.Dec.{eqb, leb, ltb}
 use lib.Ieee.{Float, eq}
 use lib.ListN.{length, get_or}
@@ -14,14 +13,14 @@ use Rattle.loops.specs.Bounds.{most_buses, most_corridors}
 use Rattle.loops.specs.Figures.{at, nought, finite}
 use Rattle.loops.specs.Loops.{first}
 use Rattle.loops.proofs.Bools.{both, and_of, unequal}
-use Rattle.loops.proofs.Chains.{only, after, err_not_ok}
 use Rattle.loops.proofs.Order.{finite_bounded}
-use Rattle.loops.proofs.Scan.{all_pass, pass_all}
+use Rattle.loops.proofs.Scan.{all_pass}
+use Rattle.loops.proofs.Verdicts.{passes_all, where_all_pass}
 use Rattle.loops.proofs.Zeros.{void_zero}
 use Rattle.refusal.specs.Reply.{Reply, answered, no_refusal, refused}
 use Rattle.refusal.specs.declared.Refusal.{Refusal}
 use Rattle.angles_defs.specs.Network.{zeros}
-use Rattle.angles_defs.specs.Operation.{Request, lengths_ok, counts_ok, edge_ok, ground_ok, first_edge, first_ground, check_of, finite_at, finish_if, finish, answer_to, solve_of, solution_of, dc_angles, work_places, Outcome}
+use Rattle.angles_defs.specs.Operation.{Request, lengths_ok, counts_ok, tests_of, check_of, finite_at, finish_if, finish, answer_to, solve_of, solution_of, dc_angles, work_places, Outcome}
 use Rattle.angles_defs.specs.declared.Solution.{Solution}
 use Rattle.angles_defs.proofs.Solves.{solve_steps, solve_places, solve_ground}
 
@@ -89,43 +88,27 @@ module _ (q : Request) (result work : ℕ) where
 
   -- a request passes exactly where it is sound
   pub sound_of : check_of q result work ≡ no_refusal → Sound q result work
-  unfolding check_of
+  unfolding tests_of
   sound_of h =
-      let a = only (lengths_ok q result work) h err_not_ok in
-      let b = only (counts_ok q.n q.m q.k) a.1 err_not_ok in
-      let c = after (ltb (first_edge q) q.m) b.1 err_not_ok in
-      let d = after (ltb (first_ground q) q.k) c.1 err_not_ok in
-      let E : (e : ℕ) → e < q.m → edge_ok q.n q.edges.from q.edges.to e ≡ true =
-      all_pass (edge_ok q.n q.edges.from q.edges.to) q.m (ltb-false (first_edge q) q.m c.0) in
-      let G : (g : ℕ) → g < q.k → ground_ok q.n q.grounds g ≡ true =
-      all_pass (ground_ok q.n q.grounds) q.k (ltb-false (first_ground q) q.k d.0) in
-      let C = counts_of b.0 in
+      let p = passes_all (tests_of q result work) h in
+      let C = counts_of p.1.0 in
+      let E = λ (e : ℕ) (l : e < q.m). both (ltb (get_or q.edges.from e 0) q.n) (ltb (get_or q.edges.to e 0) q.n) (p.1.1.0 e l) in
       record {
-        lengths = lengths_of a.0;
+        lengths = lengths_of p.0;
         buses = C.0;
         edges = C.1;
         grounds = C.2;
-        from_below = λ e l. ltb-true _ _ (both (ltb (get_or q.edges.from e 0) q.n) _ (E e l)).0;
-        to_below = λ e l. ltb-true _ _ (both (ltb (get_or q.edges.from e 0) q.n) _ (E e l)).1;
-        ground_below = λ g l. ltb-true _ _ (G g l);
+        from_below = λ e l. ltb-true _ _ (E e l).0;
+        to_below = λ e l. ltb-true _ _ (E e l).1;
+        ground_below = λ g l. ltb-true _ _ (p.1.1.1.0 g l);
       }
 
   pub of_sound : Sound q result work → check_of q result work ≡ no_refusal
-  unfolding check_of
+  unfolding tests_of
   of_sound S =
-      rw (of_lengths S.lengths, of_counts S.buses S.edges S.grounds, edges_pass, grounds_pass)
-    where
-      edges_pass : ltb (first_edge q) q.m ≡ false
-      edges_pass =
-          let e : first_edge q ≡ q.m =
-          pass_all (edge_ok q.n q.edges.from q.edges.to) q.m
-          (λ e l. and_of (lt-ltb _ _ (S.from_below e l)) (lt-ltb _ _ (S.to_below e l))) in
-          le-ltb (first_edge q) q.m (omega arith)
-
-      grounds_pass : ltb (first_ground q) q.k ≡ false
-      grounds_pass =
-          let e : first_ground q ≡ q.k = pass_all (ground_ok q.n q.grounds) q.k (λ g l. lt-ltb _ _ (S.ground_below g l)) in
-          le-ltb (first_ground q) q.k (omega arith)
+      let E = λ (e : ℕ) (l : e < q.m). and_of (lt-ltb _ _ (S.from_below e l)) (lt-ltb _ _ (S.to_below e l)) in
+      let G = λ (g : ℕ) (l : g < q.k). lt-ltb _ _ (S.ground_below g l) in
+      sym (where_all_pass (tests_of q result work) (of_lengths S.lengths, (of_counts S.buses S.edges S.grounds, (E, (G, tt)))))
 
 -- ---- a sound request is answered from itself alone: neither what the lent slices held nor anything else has a part in it
 pub of_request : (q : Request) (result work : List Float) → Sound q (length result) (length work) → dc_angles q result work ≡ finish q.n (solve_of q)

@@ -12,7 +12,7 @@ use Rattle.refusal.specs.Reply.{refused}
 use Rattle.root.specs.Root.{root}
 use Rattle.angles_defs.specs.Network.{Edges, Network, edges_of, network_of, zeros, grounded_of, diag_of, scatter, kept, shares, along, back, less}
 use Rattle.angles_defs.specs.Solve.{Solved, solved, settled_share, step, run, begin, solve_from, solve}
-use Rattle.angles_defs.specs.Operation.{Request, request_of, check_of, finish_if, Outcome, dc_angles}
+use Rattle.angles_defs.specs.Operation.{Request, request_of, tests_of, finish_if, Outcome, dc_angles}
 use Rattle.angles_defs.specs.declared.Ended.TheVariants.{Settled, NoDescent}
 
 abbrev minus_quarter : Float
@@ -70,5 +70,5 @@ infinite_guess = request_of 2 1 1 (0 ∷ []) (1 ∷ []) (one ∷ []) (nought ∷
 pub refusals :
     dc_angles wrong_ends (ones 2) (ones 16) ∷ dc_angles infinite_guess (ones 2) (ones 16) ∷ []
     ≡ refuses 10 1 (ones 2) (ones 16) ∷ refuses 9 1 (zeros 2) (zeros 16) ∷ []
-unfolding dc_angles check_of finish_if first number_of index_of iter tab sum_to root grounded_of diag_of scatter kept shares along back less step run begin solve_from solve of_bits add sub mul div neg lt eq le ne
+unfolding dc_angles tests_of finish_if first number_of index_of iter tab sum_to root grounded_of diag_of scatter kept shares along back less step run begin solve_from solve of_bits add sub mul div neg lt eq le ne
 refusals = refl

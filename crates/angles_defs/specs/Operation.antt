@@ -1,9 +1,10 @@
 -- Angles (document 01, "Refusals of each operation, in order", and modules, 5): what `dc_angles` answers, and what it leaves in the slices that it is lent.
-use Rattle.std.specs.Prelude.{ℕ, ◌*◌, Bool, true, false, cond, ◌&&◌, List, eqb, leb, ltb, length, get_or, Float, Err, Ok, Result}
+use Rattle.std.specs.Prelude.{ℕ, ◌*◌, Bool, true, false, ◌&&◌, List, [], ◌∷◌, eqb, leb, ltb, length, get_or, Float, Err, Ok, Result}
 use Rattle.loops.specs.Bounds.{most_buses, most_corridors}
 use Rattle.loops.specs.Figures.{at, finite}
 use Rattle.loops.specs.Loops.{first}
-use Rattle.refusal.specs.Reply.{Reply, reply_of, no_refusal}
+use Rattle.loops.specs.Verdict.{Test, holds, each, verdict}
+use Rattle.refusal.specs.Reply.{Reply, reply_of}
 use Rattle.refusal.specs.declared.Refusal.{Refusal}
 use Rattle.refusal.specs.declared.Refusal.TheVariants.{Length, Count, Edge, Ground, NotFinite}
 use Rattle.angles_defs.specs.Network.{Edges, edges_of, zeros}
@@ -44,22 +45,16 @@ edge_ok n from to e = ltb (get_or from e 0) n && ltb (get_or to e 0) n
 abbrev pub ground_ok : ℕ → List ℕ → ℕ → Bool
 ground_ok n grounds g = ltb (get_or grounds g 0) n
 
-abbrev pub first_edge : Request → ℕ
-first_edge q = first (edge_ok q.n q.edges.from q.edges.to) q.m 0
+unfoldable pub tests_of : Request → ℕ → ℕ → List (Test Refusal)
+tests_of q result work =
+    holds (lengths_ok q result work) Length
+    ∷ holds (counts_ok q.n q.m q.k) Count
+    ∷ each (edge_ok q.n q.edges.from q.edges.to) Edge q.m
+    ∷ each (ground_ok q.n q.grounds) Ground q.k
+    ∷ []
 
-abbrev pub first_ground : Request → ℕ
-first_ground q = first (ground_ok q.n q.grounds) q.k 0
-
--- the first refusal in order
-unfoldable pub check_of : Request → ℕ → ℕ → Result (Unit {0}) Refusal
-check_of q result work =
-    cond (lengths_ok q result work)
-    (cond (counts_ok q.n q.m q.k)
-    (cond (ltb (first_edge q) q.m) (Err (Edge (first_edge q)))
-    (cond (ltb (first_ground q) q.k) (Err (Ground (first_ground q)))
-    no_refusal))
-    (Err Count))
-    (Err Length)
+abbrev pub check_of : Request → ℕ → ℕ → Result (Unit {0}) Refusal
+check_of q result work = verdict (tests_of q result work)
 
 -- ---- what is said, and what the result and the work hold then
 pub record Outcome : Type 0 where

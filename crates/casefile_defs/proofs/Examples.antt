@@ -16,7 +16,7 @@ use Rattle.mode.specs.declared.PlanMode.TheVariants.{Observe}
 use Rattle.casefile_defs.specs.Layout.{little, word, spot}
 use Rattle.casefile_defs.specs.Looks.{looked_as, looked_at}
 use Rattle.casefile_defs.specs.Moving.{bus_as, buses_as, file_as, fitted, moved_as, unmoved, forward_by, first_other, back_by, move_back}
-use Rattle.casefile_defs.specs.Reading.{record_at, admitted, stepped, walked, bus_form, mode_of, header_of, counts_ok, tables_walked, trailing, looks_for, case_read, unread, end_read, body_read, read_as, read_of}
+use Rattle.casefile_defs.specs.Reading.{record_tests, record_at, admitted, stepped, walked, bus_form, mode_of, header_of, counts_ok, tables_walked, trailing, looks_for, case_read, unread, end_read, body_read, read_as, read_of}
 use Rattle.casefile_defs.specs.Tables.{Places, number_at, figure_at, number_in, figure_in, weight_at, weight_in, sheet_in, lines_at, tables_of}
 use Rattle.casefile_defs.specs.declared.Header.{Header}
 use Rattle.casefile_defs.specs.declared.Wanted.TheVariants.{Either, Plain, Weighed}
@@ -56,7 +56,7 @@ abbrev header_l : Header
 header_l = record { mode = Observe; target = 0; buses = 2; corridors = 1; generators = 1; above = 0; requested = 1 }
 
 pub case_l : read_of file_l ≡ case_read (Ok header_l) 0
-unfolding read_as body_read end_read tables_walked walked bus_form stepped admitted record_at header_of mode_of mode_number trailing looks_for iter first word little
+unfolding read_as body_read end_read tables_walked walked bus_form stepped admitted record_at record_tests header_of mode_of mode_number trailing looks_for iter first word little
 case_l = refl
 
 -- ---- its tables: zeros past the counts
@@ -109,7 +109,7 @@ header_two = record { mode = Observe; target = 0; buses = 2; corridors = 2; gene
 pub capped :
     map read_of (capped_l 2 ∷ capped_l 7 ∷ two_l ∷ take 107 (capped_l 2) ∷ take 107 file_l ∷ set (take 107 file_l) 85 0x51 ∷ set (set file_l 25 0x43) 26 0x50 ∷ [])
     ≡ case_read (Ok header_l) 0 ∷ case_read (Ok header_l) 0 ∷ case_read (Ok header_two) 0 ∷ map unread (Cut 5 ∷ Cut 6 ∷ Mark 5 ∷ Mark 2 ∷ [])
-unfolding read_as body_read end_read tables_walked walked bus_form stepped admitted record_at header_of mode_of mode_number trailing looks_for iter first word little
+unfolding read_as body_read end_read tables_walked walked bus_form stepped admitted record_at record_tests header_of mode_of mode_number trailing looks_for iter first word little
 capped = refl
 
 -- a CO has cap 0; what stands behind a CP is found; past the corridors there are zeros, whatever stands there
@@ -153,7 +153,7 @@ abbrev file_w : List ℕ
 file_w = buses_l (first_l ++ second_l)
 
 pub case_w : read_of file_w ≡ case_read (Ok header_l) 0
-unfolding read_as body_read end_read tables_walked walked bus_form stepped admitted record_at header_of mode_of mode_number trailing looks_for iter first word little
+unfolding read_as body_read end_read tables_walked walked bus_form stepped admitted record_at record_tests header_of mode_of mode_number trailing looks_for iter first word little
 case_w = refl
 
 -- what stands behind a BV is found; past the buses there are zeros, also for the weight
@@ -181,7 +181,7 @@ pub forms_meet :
     (plain_first ∷ weighed_first ∷ take 55 plain_first ∷ take 54 plain_first ∷ take 55 weighed_first ∷ take 54 weighed_first ∷ take 43 file_w ∷ take 44 file_w
     ∷ set (take 55 weighed_first) 45 0x57 ∷ set plain_first 26 0x57 ∷ set file_l 47 0x42 ∷ set (set file_l 47 0x42) 48 0x56 ∷ [])
     ≡ map unread (Mark 3 ∷ Mark 3 ∷ Mark 3 ∷ Cut 3 ∷ Mark 3 ∷ Cut 3 ∷ Cut 2 ∷ Cut 3 ∷ Mark 3 ∷ Mark 2 ∷ Mark 4 ∷ Mark 4 ∷ [])
-unfolding read_as body_read end_read tables_walked walked bus_form stepped admitted record_at header_of mode_of mode_number trailing looks_for iter first word little
+unfolding read_as body_read end_read tables_walked walked bus_form stepped admitted record_at record_tests header_of mode_of mode_number trailing looks_for iter first word little
 forms_meet = refl
 
 -- ---- document 02's K7: case L with its loads as readings of weight 1, and back; the output is this and zeros
@@ -203,7 +203,7 @@ moved_back = refl
 pub other_form :
     map (read_as Plain) (file_w ∷ take 43 file_w ∷ plain_first ∷ []) ++ map (read_as Weighed) (file_l ∷ take 35 file_l ∷ weighed_first ∷ [])
     ≡ map unread (Mark 2 ∷ Cut 2 ∷ Mark 3 ∷ Mark 2 ∷ Cut 2 ∷ Mark 3 ∷ [])
-unfolding read_as body_read end_read tables_walked walked bus_form stepped admitted record_at header_of mode_of mode_number trailing looks_for iter first word little
+unfolding read_as body_read end_read tables_walked walked bus_form stepped admitted record_at record_tests header_of mode_of mode_number trailing looks_for iter first word little
 other_form = refl
 
 -- 21 at the lowest bus whose weight is not 1, the output zero; after every refusal of the reading
@@ -212,7 +212,7 @@ unfolding back_by first_other spot first word little
 other_weight = refl
 
 pub trailing_first : (out : List ℕ) → length out ≡ 65536 → move_back (file_w ++ (7 ∷ [])) out ≡ moved_as (Err (Trailing 158)) (replicate 65536 0)
-unfolding move_back back_by read_as body_read end_read tables_walked walked bus_form stepped admitted record_at header_of mode_of mode_number trailing looks_for iter first word little
+unfolding move_back back_by read_as body_read end_read tables_walked walked bus_form stepped admitted record_at record_tests header_of mode_of mode_number trailing looks_for iter first word little
 trailing_first out e = rw e refl
 
 -- ---- refusals: no byte, and a header cut; mode 6; 129 generators; a bus cut, its mark wrong too; the level's mark; the second bus's mark, and a basis of 2
@@ -222,14 +222,14 @@ pub refusals :
     ([] ∷ take 14 file_l ∷ set file_l 2 6 ∷ set file_l 11 129 ∷ take 35 file_l ∷ set (take 35 file_l) 25 0 ∷ set file_l 15 0 ∷ set (set file_l 36 0) 141 2 ∷ set file_l 51 2
     ∷ set file_l 141 2 ∷ [])
     ≡ map unread (Cut 0 ∷ Cut 0 ∷ Code 0 ∷ Count ∷ Cut 2 ∷ Cut 2 ∷ Mark 1 ∷ Mark 3 ∷ Code 4 ∷ Code 6 ∷ [])
-unfolding read_as body_read end_read tables_walked walked bus_form stepped admitted record_at header_of mode_of mode_number trailing looks_for iter first word little
+unfolding read_as body_read end_read tables_walked walked bus_form stepped admitted record_at record_tests header_of mode_of mode_number trailing looks_for iter first word little
 refusals = refl
 
 -- zeros behind the last record; a byte that is not zero in the third place, as the first of a word, as the last of the second
 pub after_the_last :
     map (λ l. read_of (file_l ++ l)) (replicate 9 0 ∷ (0 ∷ 0 ∷ 7 ∷ []) ∷ (7 ∷ replicate 7 0) ∷ (replicate 15 0 ++ (7 ∷ [])) ∷ [])
     ≡ case_read (Ok header_l) 2 ∷ case_read (Err (Trailing 144)) 3 ∷ case_read (Err (Trailing 142)) 2 ∷ case_read (Err (Trailing 157)) 10 ∷ []
-unfolding read_as body_read end_read tables_walked walked bus_form stepped admitted record_at header_of mode_of mode_number trailing looks_for iter first word little
+unfolding read_as body_read end_read tables_walked walked bus_form stepped admitted record_at record_tests header_of mode_of mode_number trailing looks_for iter first word little
 after_the_last = refl
 
 -- ---- document 01's bounds: each count and the target at its largest, and then each outside its bound

@@ -5,14 +5,16 @@ use mathlib.Core.Path.{◌≡◌, refl, sym, ap, ◌∙◌}
 use mathlib.Core.Bool.{Bool, true, false, ◌&&◌, and-true, and-false}
 use mathlib.Core.List.{List}
 use native.Mathlib.Omega.{arith}
-use borrow.Author.Tests.{lt-ltb, le-ltb, ltb-false}
-use lib.Dec.{leb, ltb, eqb}
+use borrow.Author.Tests.{le-leb, lt-leb, leb-true}
+use lib.Dec.{leb, eqb}
 use lib.ListN.{length, get_or, get_or-eq_default}
-use Rattle.loops.proofs.Chains.{only, after, err_not_ok}
+use Rattle.loops.specs.Verdict.{verdict}
+use Rattle.loops.proofs.Chains.{only, err_not_ok}
+use Rattle.loops.proofs.Verdicts.{passes_all, where_all_pass}
 use Rattle.refusal.specs.declared.Refusal.{Refusal}
 use Rattle.refusal.specs.declared.Refusal.TheVariants.{Cut, Mark, Code}
 use Rattle.casefile_defs.specs.Layout.{layout_of, size_of, codes_ok, word, marked, suits}
-use Rattle.casefile_defs.specs.Reading.{record_at, admitted}
+use Rattle.casefile_defs.specs.Reading.{record_tests, read_to, record_at, admitted}
 use Rattle.casefile_defs.specs.declared.Kind.{Kind}
 use Rattle.casefile_defs.specs.declared.Kind.TheVariants.{Head, Level, Bus, Generator, Corridor, Line, CappedCorridor, WeighedBus}
 use Rattle.std.specs.Prelude.{Err, Ok, Result}
@@ -45,20 +47,20 @@ unmarked k s at h =
 -- ---- the four ways
 module _ (k : Kind) (s : List ℕ) (r at : ℕ) where
   pub cut_at : length s < at + size_of k → Err (Cut r) ≡ record_at k s r at
-  unfolding record_at
-  cut_at h = simp (lt-ltb _ _ h)
+  unfolding record_at record_tests
+  cut_at h = simp (lt-leb (at + size_of k) (length s) h)
 
   pub mark_at : at + size_of k ≤ length s → marked k s at ≡ false → Err (Mark r) ≡ record_at k s r at
-  unfolding record_at
-  mark_at h m = simp (le-ltb _ _ h, m)
+  unfolding record_at record_tests
+  mark_at h m = simp (le-leb _ _ h, m)
 
   pub code_at : at + size_of k ≤ length s → marked k s at ≡ true → codes_ok k s at ≡ false → Err (Code r) ≡ record_at k s r at
-  unfolding record_at
-  code_at h m a = simp (le-ltb _ _ h, m, a)
+  unfolding record_at record_tests
+  code_at h m a = simp (le-leb _ _ h, m, a)
 
   pub good_at : at + size_of k ≤ length s → marked k s at ≡ true → codes_ok k s at ≡ true → Ok (at + size_of k) ≡ record_at k s r at
-  unfolding record_at
-  good_at h m a = simp (le-ltb _ _ h, m, a)
+  unfolding record_at record_tests
+  good_at h m a = ap (read_to (at + size_of k)) (where_all_pass (record_tests k s r at) (le-leb _ _ h, (m, (a, tt))))
 
 -- ---- a record that is passed lies inside the file, bears its mark and keeps its bounds
 pub record Passed (k : Kind) (s : List ℕ) (at next : ℕ) : Type 0 where
@@ -67,16 +69,16 @@ pub record Passed (k : Kind) (s : List ℕ) (at next : ℕ) : Type 0 where
   pub bounds : codes_ok k s at ≡ true
   pub past : next ≡ at + size_of k
 
-place_is : (n m : ℕ) → ◌≡◌ {A = Result ℕ Refusal} (Ok n) (Ok m) → m ≡ n
-place_is n m e = cc
+read_past : (n next : ℕ) (v : Result (Unit {0}) Refusal) → read_to n v ≡ Ok next → (v ≡ Ok tt) × (next ≡ n)
+read_past n next (Ok tt) e = (refl, cc)
+read_past n next (Err f) e = absurd (err_not_ok e)
 
 pub passed : (k : Kind) (s : List ℕ) (r at next : ℕ) → record_at k s r at ≡ Ok next → Passed k s at next
-unfolding record_at
+unfolding record_at record_tests
 passed k s r at next e =
-    let x = after (ltb (length s) (at + size_of k)) e err_not_ok in
-    let y = only (marked k s at) x.1 err_not_ok in
-    let z = only (codes_ok k s at) y.1 err_not_ok in
-    record { room = ltb-false _ _ x.0; mark = y.0; bounds = z.0; past = place_is _ next z.1 }
+    let p = read_past (at + size_of k) next (verdict (record_tests k s r at)) e in
+    let all = passes_all (record_tests k s r at) p.0 in
+    record { room = leb-true _ _ all.0; mark = all.1.0; bounds = all.1.1.0; past = p.1 }
 
 -- a record that is admitted is of the file's form
 pub admitted_at : (weighed : Bool) (k : Kind) (r next : ℕ) (w : Result ℕ Refusal) → admitted weighed k r w ≡ Ok next → (w ≡ Ok next) × (suits weighed k ≡ true)

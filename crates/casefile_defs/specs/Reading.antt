@@ -1,6 +1,7 @@
 -- Document 01's "Case reading": the header that a file is read as, or the first refusal, record by record.
-use Rattle.std.specs.Prelude.{ℕ, ◌+◌, ◌-◌, ◌*◌, ◌/◌, ◌%◌, ◌≤◌, min, Bool, true, false, ◌&&◌, cond, List, leb, ltb, eqb, length, get_or, Err, Ok, Result}
+use Rattle.std.specs.Prelude.{ℕ, ◌+◌, ◌-◌, ◌*◌, ◌/◌, ◌%◌, ◌≤◌, min, Bool, true, false, ◌&&◌, cond, List, [], ◌∷◌, leb, ltb, eqb, length, get_or, Err, Ok, Result}
 use Rattle.loops.specs.Loops.{iter, first}
+use Rattle.loops.specs.Verdict.{Test, holds, verdict}
 use Rattle.refusal.specs.declared.Refusal.{Refusal}
 use Rattle.refusal.specs.declared.Refusal.TheVariants.{Count, FileLength, Cut, Mark, Code, Trailing}
 use Rattle.mode.specs.Number.{mode_number}
@@ -15,12 +16,21 @@ use Rattle.casefile_defs.specs.declared.Wanted.{Wanted}
 use Rattle.casefile_defs.specs.declared.Wanted.TheVariants.{Either, Plain, Weighed}
 use Rattle.casefile_defs.specs.declared.CaseRead.{CaseRead}
 
--- record r of the file, of kind k, at a place: past it, or what is wrong with it (14, then 15, then 16)
+-- what is asked of record r of the file, of kind k, at a place: 14, 15, 16
+unfoldable pub record_tests : Kind → List ℕ → ℕ → ℕ → List (Test Refusal)
+record_tests k s r at =
+    holds (leb (at + size_of k) (length s)) (Cut r)
+    ∷ holds (marked k s at) (Mark r)
+    ∷ holds (codes_ok k s at) (Code r)
+    ∷ []
+
+-- past it, or what is wrong with it
+abbrev pub read_to : ℕ → Result (Unit {0}) Refusal → Result ℕ Refusal
+read_to next (Ok tt) = Ok next
+read_to next (Err f) = Err f
+
 unfoldable pub record_at : Kind → List ℕ → ℕ → ℕ → Result ℕ Refusal
-record_at k s r at =
-    cond (ltb (length s) (at + size_of k))
-    (Err (Cut r))
-    (cond (marked k s at) (cond (codes_ok k s at) (Ok (at + size_of k)) (Err (Code r))) (Err (Mark r)))
+record_at k s r at = read_to (at + size_of k) (verdict (record_tests k s r at))
 
 -- a record that is whole, but a BV in a file of BU or a BU in a file of BV, has a wrong mark (15)
 unfoldable pub admitted : Bool → Kind → ℕ → Result ℕ Refusal → Result ℕ Refusal

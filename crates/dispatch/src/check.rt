@@ -22,7 +22,7 @@ fn demand_ok(demand: f64) -> bool
 }
 
 // 2 and 5, of tables that 1 passes.
-#[tactic(auto, using(loops::proofs::Scan::fault_some, loops::proofs::Scan::fault_passed), unfolding(dispatch_defs::specs::Operation::check_of, dispatch_defs::specs::Operation::faulty_unit))]
+#[tactic(auto, using(loops::proofs::Scan::fault_some, loops::proofs::Scan::fault_passed), unfolding(dispatch_defs::specs::Operation::tests_of))]
 pub fn check(units: usize, table: &UnitTable, demand: f64) -> Result<(), Refusal>
     ensures { (places : ℕ) → lengths_ok units (length table.now.pmin) (length table.now.pmax) (length table.now.c1) (length table.now.c2) places ≡ true → result ≡ check_of units table.now demand places }
 {

@@ -1,20 +1,17 @@
--- The ways out of `check`, and what a request that passes it has.
--- Each test is rewritten to the side on which it fell; the four tests together are taken apart once, in `passes`.
-use Prim.Native.Nat.{ℕ, ◌≤◌}
+-- What a request that passes all tests has, and 1, which the code says before it has the tables.
+use Prim.Native.Nat.{ℕ}
 use mathlib.Core.Bool.{Bool, true, false, ◌&&◌}
-use mathlib.Core.Path.{◌≡◌, refl, sym, ◌∙◌}
-use native.Mathlib.Nat.{le_of_eq}
-use borrow.Author.Tests.{eqb-true, eq-eqb, ltb-false, leb-true, le-ltb, le-leb}
-use lib.Dec.{eqb, leb, ltb}
+use mathlib.Core.Path.{◌≡◌, sym, ◌∙◌}
+use borrow.Author.Tests.{eqb-true, eq-eqb, leb-true, le-leb}
+use lib.Dec.{eqb}
 use lib.ListN.{length}
 use lib.Ieee.{Float}
 use Rattle.loops.specs.Bounds.{most_generators}
 use Rattle.loops.proofs.Bools.{both, and_of}
-use Rattle.loops.proofs.Chains.{only, after, err_not_ok}
-use Rattle.loops.proofs.Scan.{all_pass, pass_all}
+use Rattle.loops.proofs.Verdicts.{passes_all, where_all_pass}
 use Rattle.refusal.specs.declared.Refusal.TheVariants.{Length}
-use Rattle.dispatch_defs.specs.Units.{Units, Even, count, unit_ok_at}
-use Rattle.dispatch_defs.specs.Operation.{lengths_ok, demand_ok, faulty_unit, check_of}
+use Rattle.dispatch_defs.specs.Units.{Units, Even}
+use Rattle.dispatch_defs.specs.Operation.{lengths_ok, tests_of, check_of}
 use Rattle.dispatch_defs.specs.Limits.{Accepted}
 use Rattle.std.specs.Prelude.{Err}
 use Rattle.refusal.specs.Reply.{no_refusal}
@@ -58,37 +55,28 @@ module _ (n : ℕ) (u : Units) (m : ℕ) where
       record { pmax = l.pmax ∙ sym l.pmin; c1 = l.c1 ∙ sym l.pmin; c2 = l.c2 ∙ sym l.pmin }
 
 module _ (n : ℕ) (u : Units) (d : Float) (m : ℕ) where
-  -- ---- the ways out
   pub check_length : fits n u m ≡ false → Err Length ≡ check_of n u d m
-  unfolding check_of
+  unfolding tests_of
   check_length a = rw a
-
-  module _ (a : fits n u m ≡ true) (b : n ≤ most_generators) (i : ℕ) (e : i ≡ faulty_unit u) (h : count u ≤ i) where
-    pub check_passed : demand_ok d ≡ true → no_refusal ≡ check_of n u d m
-    unfolding check_of
-    check_passed q = rw (a, le-leb n most_generators b, ← e, le-ltb i (count u) h, q)
 
   -- ---- a request that passes, and one that is to pass
   pub passes : check_of n u d m ≡ no_refusal → Accepted n u d m
-  unfolding check_of faulty_unit
+  unfolding tests_of
   passes h =
-      let a = only (fits n u m) h err_not_ok in
-      let b = only (leb n most_generators) a.1 err_not_ok in
-      let c = after (ltb (faulty_unit u) (count u)) b.1 err_not_ok in
-      let e = only (demand_ok d) c.1 err_not_ok in
+      let p = passes_all (tests_of n u d m) h in
       record {
-        size = (lengths n u m a.0).pmin;
-        room = (lengths n u m a.0).mw;
-        few = leb-true n most_generators b.0;
-        units = record { even = even n u m a.0; each = λ i l. all_pass (unit_ok_at u) (count u) (ltb-false (faulty_unit u) (count u) c.0) i l };
-        demand = e.0;
+        size = (lengths n u m p.0).pmin;
+        room = (lengths n u m p.0).mw;
+        few = leb-true n most_generators p.1.0;
+        units = record { even = even n u m p.0; each = p.1.1.0 };
+        demand = p.1.1.1.0;
       }
 
   pub accepts : Accepted n u d m → check_of n u d m ≡ no_refusal
-  unfolding faulty_unit
+  unfolding tests_of
   accepts p =
       let e = p.units.even in
-      sym (check_passed
-      (lengths_ok_lem n (length u.pmin) (length u.pmax) (length u.c1) (length u.c2) m
-      (record { pmin = p.size; pmax = e.pmax ∙ p.size; c1 = e.c1 ∙ p.size; c2 = e.c2 ∙ p.size; mw = p.room }))
-      p.few (faulty_unit u) refl (le_of_eq (sym (pass_all (unit_ok_at u) (count u) p.units.each))) p.demand)
+      let l =
+      lengths_ok_lem n (length u.pmin) (length u.pmax) (length u.c1) (length u.c2) m
+      (record { pmin = p.size; pmax = e.pmax ∙ p.size; c1 = e.c1 ∙ p.size; c2 = e.c2 ∙ p.size; mw = p.room }) in
+      sym (where_all_pass (tests_of n u d m) (l, (le-leb n most_generators p.few, (p.units.each, (p.demand, tt)))))

@@ -11,7 +11,7 @@ use Rattle.refusal.specs.Reply.{answered, refused}
 use Rattle.dispatch_defs.specs.Units.{Units, units_of, output_at}
 use Rattle.dispatch_defs.specs.Share.{total_at, opening, halved, bisected, price_of, outputs, first_free, closed, shared}
 use Rattle.dispatch_defs.specs.Dispatch.{standing, dispatch_at, economic_dispatch, infinite_cost, faulty_cost_at, faulty_cost}
-use Rattle.dispatch_defs.specs.Operation.{Outcome, faulty_unit, check_of, shared_out_if, shared_out, dispatched_by, dispatched}
+use Rattle.dispatch_defs.specs.Operation.{Outcome, tests_of, shared_out_if, shared_out, dispatched_by, dispatched}
 
 -- a whole figure, and one by its bits
 abbrev pub f : ℕ → Float
@@ -36,7 +36,7 @@ fixed = units_of (f 30 ∷ []) (f 30 ∷ []) (f 10 ∷ []) (decimal 1 4 ∷ [])
 pub starred :
     dispatched 1 flat (f 50) (f 7 ∷ []) ∷ dispatched 1 flat (f 100) (f 7 ∷ []) ∷ dispatched 1 fixed (f 30) (f 7 ∷ []) ∷ []
     ≡ gives (f 0 ∷ []) ∷ gives (f 100 ∷ []) ∷ gives (f 30 ∷ []) ∷ []
-unfolding dispatched dispatched_by shared_out shared_out_if check_of faulty_unit faulty_cost faulty_cost_at infinite_cost economic_dispatch dispatch_at standing shared closed first_free outputs price_of bisected halved opening total_at output_at first tab sum_to least_to greatest_to number_of index_of neg add sub mul div lt eq le of_bits round
+unfolding dispatched dispatched_by shared_out shared_out_if tests_of faulty_cost faulty_cost_at infinite_cost economic_dispatch dispatch_at standing shared closed first_free outputs price_of bisected halved opening total_at output_at first tab sum_to least_to greatest_to number_of index_of neg add sub mul div lt eq le of_bits round
 starred = refl
 
 -- ---- corners: three units of which the first takes the gap; a middle of the prices that overflows, so that the unit stands at its most;
@@ -61,5 +61,5 @@ pub corners :
     ≡ gives (bits 0x4047_2492_4924_5c00 ∷ bits 0x4035_2492_4924_a800 ∷ bits 0x404a_4924_9249_5000 ∷ []) ∷ gives (f 1_000_000 ∷ []) ∷ gives []
     ∷ refuses 8 1 (f 7 ∷ f 7 ∷ []) ∷ refuses 5 1 (f 7 ∷ f 7 ∷ []) ∷ refuses 5 1 (f 7 ∷ f 7 ∷ []) ∷ refuses 5 0 (f 7 ∷ [])
     ∷ []
-unfolding dispatched dispatched_by shared_out shared_out_if check_of faulty_unit faulty_cost faulty_cost_at infinite_cost economic_dispatch dispatch_at standing shared closed first_free outputs price_of bisected halved opening total_at output_at first tab sum_to least_to greatest_to number_of index_of neg add sub mul div lt eq le of_bits round
+unfolding dispatched dispatched_by shared_out shared_out_if tests_of faulty_cost faulty_cost_at infinite_cost economic_dispatch dispatch_at standing shared closed first_free outputs price_of bisected halved opening total_at output_at first tab sum_to least_to greatest_to number_of index_of neg add sub mul div lt eq le of_bits round
 corners = refl

@@ -1,9 +1,9 @@
 -- Document 01, refusals of *Dispatch*: 1; 2; 5 limits or costs of a unit, and after all units a demand outside 0 to 1e9 (index 0);
 -- 8 demand strictly between the sums and some unit's c1 + 2 · c2 · p not finite at either limit. Slices keep their contents.
-use Rattle.std.specs.Prelude.{ℕ, Bool, true, false, cond, ◌&&◌, List, ltb, leb, eqb, length, Float, Err, Ok, Result}
+use Rattle.std.specs.Prelude.{ℕ, Bool, true, false, ◌&&◌, List, [], ◌∷◌, ltb, leb, eqb, length, Float, Err, Ok, Result}
 use Rattle.loops.specs.Bounds.{most_generators}
 use Rattle.loops.specs.Figures.{nought, billion, inside}
-use Rattle.loops.specs.Loops.{first}
+use Rattle.loops.specs.Verdict.{Test, holds, each, verdict}
 use Rattle.refusal.specs.Reply.{Reply, reply_of, no_refusal}
 use Rattle.refusal.specs.declared.Refusal.TheVariants.{Length, Count, Generator, Demand, Cost}
 use Rattle.dispatch_defs.specs.Units.{Units, count, unit_ok_at}
@@ -20,18 +20,16 @@ most_demand = billion
 abbrev pub demand_ok : Float → Bool
 demand_ok demand = inside nought most_demand demand
 
--- the first unit with wrong limits or costs, the number of units where there is none
-unfoldable pub faulty_unit : Units → ℕ
-faulty_unit u = first (unit_ok_at u) (count u) 0
+unfoldable pub tests_of : ℕ → Units → Float → ℕ → List (Test Refusal)
+tests_of units u demand places =
+    holds (lengths_ok units (length u.pmin) (length u.pmax) (length u.c1) (length u.c2) places) Length
+    ∷ holds (leb units most_generators) Count
+    ∷ each (unit_ok_at u) Generator (count u)
+    ∷ holds (demand_ok demand) Demand
+    ∷ []
 
-unfoldable pub check_of : ℕ → Units → Float → ℕ → Result (Unit {0}) Refusal
-check_of units u demand places =
-    cond (lengths_ok units (length u.pmin) (length u.pmax) (length u.c1) (length u.c2) places)
-    (cond (leb units most_generators)
-    (cond (ltb (faulty_unit u) (count u)) (Err (Generator (faulty_unit u)))
-    (cond (demand_ok demand) no_refusal (Err Demand)))
-    (Err Count))
-    (Err Length)
+abbrev pub check_of : ℕ → Units → Float → ℕ → Result (Unit {0}) Refusal
+check_of units u demand places = verdict (tests_of units u demand places)
 
 -- ---- the answer, and what the result holds then
 pub record Outcome : Type 0 where

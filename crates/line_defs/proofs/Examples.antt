@@ -13,7 +13,7 @@ use Rattle.line_defs.specs.Spread.{fifth_root, kept_spread}
 use Rattle.line_defs.specs.Loadability.{by_segment, segment_of, digits, middle, between, loadability_of}
 use Rattle.line_defs.specs.Class.{class_of, class_of_square}
 use Rattle.line_defs.specs.Row.{class_row, line_row}
-use Rattle.line_defs.specs.Request.{faulty, check_of}
+use Rattle.line_defs.specs.Request.{tests_of, check_of}
 use Rattle.line_defs.specs.Sheet.{figures_of, row_at, figure_at}
 use Rattle.line_defs.specs.Rows.{sheets_ok, corridor_rows}
 use Rattle.std.specs.Prelude.{Err, Result}
@@ -78,7 +78,7 @@ pub refusals :
     ∷ asked 5 (decimal 69 1) (decimal 0 1) (decimal 4 1)
     ∷ []
     ≡ Err Length ∷ Err (Level 0) ∷ Err (Corridor 0) ∷ Err (Spread 0) ∷ no_refusal ∷ []
-unfolding check_of faulty first lt le add neg of_bits round
+unfolding tests_of first lt le add neg of_bits round
 refusals = refl
 
 -- levels of 230 and 69 kV, corridors of 10 and 20 km: the charging of each row, all levels of the first corridor first

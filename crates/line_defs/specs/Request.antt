@@ -1,14 +1,13 @@
 -- K8's refusals: 1 slice length; 2 count; 3 ladder; 6 a corridor's length; "22 when spread is outside 0.25 to 4, after 1, 2, 3 and 6". Document 01: ladder kV in (0, 10,000], each greater than the next plus 1e-6, that sum rounded; length 0 to 10,000 km.
-use Rattle.std.specs.Prelude.{ℕ, ◌+◌, ◌<◌, Bool, true, cond, ◌&&◌, ◌||◌, List, [], ◌∷◌, ◌≡◌, refl, leb, ltb, eqb, length, Float, Err, Result}
+use Rattle.std.specs.Prelude.{ℕ, ◌+◌, ◌<◌, Bool, true, ◌&&◌, ◌||◌, List, [], ◌∷◌, ◌≡◌, refl, leb, eqb, length, Float, Result}
 use Rattle.std.specs.Float.{binary64}
 use Rattle.std.specs.Float.Ieee.{of_bits, round, lt, le}
 use Rattle.loops.specs.Figures.{at, plus, nought, ten_thousand, millionth, inside, decimal}
-use Rattle.loops.specs.Loops.{first}
+use Rattle.loops.specs.Verdict.{Test, holds, each, verdict}
 use Rattle.refusal.specs.declared.Refusal.{Refusal}
 use Rattle.refusal.specs.declared.Refusal.TheVariants.{Length, Count, Level, Corridor, Spread}
 use Rattle.sheets.specs.Request.{counts_ok}
 use Rattle.line_defs.specs.Rows.{sheet_figures}
-use Rattle.refusal.specs.Reply.{no_refusal}
 
 -- ---- 1: ladder, lengths, spreads and the sheet, by their numbers of places
 abbrev pub lengths_ok : ℕ → ℕ → ℕ → ℕ → ℕ → ℕ → Bool
@@ -39,20 +38,18 @@ spread_bounds = refl
 abbrev pub spread_ok : List Float → ℕ → Bool
 spread_ok spread k = inside quarter four (at spread k)
 
--- ---- the first refusal, of the lowest faulty index
-unfoldable pub faulty : (List Float → ℕ → Bool) → List Float → ℕ
-faulty ok l = first (ok l) (length l) 0
+-- ---- the tests in order
+unfoldable pub tests_of : ℕ → ℕ → List Float → List Float → List Float → ℕ → List (Test Refusal)
+tests_of levels corridors ladder km spread sheet =
+    holds (lengths_ok levels corridors (length ladder) (length km) (length spread) sheet) Length
+    ∷ holds (counts_ok corridors levels) Count
+    ∷ each (level_ok ladder) Level (length ladder)
+    ∷ each (length_ok km) Corridor (length km)
+    ∷ each (spread_ok spread) Spread (length spread)
+    ∷ []
 
-abbrev pub fault_in : (List Float → ℕ → Bool) → (ℕ → Refusal) → List Float → Result (Unit {0}) Refusal → Result (Unit {0}) Refusal
-fault_in ok fault l next = cond (ltb (faulty ok l) (length l)) (Err (fault (faulty ok l))) next
-
-unfoldable pub check_of : ℕ → ℕ → List Float → List Float → List Float → ℕ → Result (Unit {0}) Refusal
-check_of levels corridors ladder km spread sheet =
-    cond (lengths_ok levels corridors (length ladder) (length km) (length spread) sheet)
-    (cond (counts_ok corridors levels)
-    (fault_in level_ok Level ladder (fault_in length_ok Corridor km (fault_in spread_ok Spread spread no_refusal)))
-    (Err Count))
-    (Err Length)
+abbrev pub check_of : ℕ → ℕ → List Float → List Float → List Float → ℕ → Result (Unit {0}) Refusal
+check_of levels corridors ladder km spread sheet = verdict (tests_of levels corridors ladder km spread sheet)
 
 -- what tables that pass have, as far as the work needs it
 pub record Sound (levels corridors : ℕ) (ladder km spread : List Float) : Type 0 where

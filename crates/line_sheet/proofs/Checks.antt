@@ -1,18 +1,13 @@
--- The tests of module check: a product that is asked without being made, a level by its place, and what passes. Assumes nothing.
-use Rattle.std.proofs.Common.{◌≡◌, ℕ, ◌*◌, ◌<◌, ◌≤◌, Bool, true, ◌&&◌, T, eqb, ltb, List, length, refl, arith, ltb-false, eqb-true}
+-- A spread that passes, and what a request that passes the check has. Assumes nothing.
+use Rattle.std.proofs.Common.{◌≡◌, ℕ, ◌*◌, ◌≤◌, true, ◌&&◌, T, eqb, List, length, refl, arith, eqb-true}
 use lib.Ieee.{Float, le, of_bits}
 use lib.Ieee.Positive.{num, den, positive, le→cross, between}
 use Rattle.loops.specs.Figures.{inside}
 use Rattle.loops.proofs.Bools.{both, is}
-use Rattle.loops.proofs.Chains.{only, after, err_not_ok}
-use Rattle.loops.proofs.Scan.{all_pass}
-use Rattle.refusal.specs.declared.Refusal.{Refusal}
-use Rattle.refusal.specs.declared.Refusal.TheVariants.{Level, Corridor, Spread as Width}
+use Rattle.loops.proofs.Verdicts.{passes_all}
 use Rattle.line_defs.specs.Bounds.{Spread}
-use Rattle.sheets.specs.Request.{counts_ok}
 use Rattle.line_defs.specs.Rows.{sheet_figures}
-use Rattle.line_defs.specs.Request.{lengths_ok, level_ok, length_ok, spread_ok, quarter, four, faulty, fault_in, check_of, Sound}
-use Rattle.std.specs.Prelude.{Result}
+use Rattle.line_defs.specs.Request.{quarter, four, tests_of, check_of, Sound}
 use Rattle.refusal.specs.Reply.{no_refusal}
 
 -- ---- a spread that passes lies from 0.25 to 4
@@ -40,36 +35,25 @@ spread_of_lem s e =
     most n d h = omega arith
 
 -- ---- the check, passed
-passed_fault : (ok : List Float → ℕ → Bool) (fault : ℕ → Refusal) (l : List Float) (next : Result (Unit {0}) Refusal) → fault_in ok fault l next ≡ no_refusal → (length l ≤ faulty ok l) × (next ≡ no_refusal)
-passed_fault ok fault l next e = let h = after (ltb (faulty ok l) (length l)) e err_not_ok in (ltb-false (faulty ok l) (length l) h.0, h.1)
-
-all_spreads : (spread : List Float) → length spread ≤ faulty spread_ok spread → (k : ℕ) → k < length spread → spread_ok spread k ≡ true
-unfolding faulty
-all_spreads spread h k l = all_pass (spread_ok spread) (length spread) h k l
-
 pub record Passed (levels corridors : ℕ) (ladder km spread : List Float) (sheet : ℕ) : Type 0 where
   pub sound : Sound levels corridors ladder km spread
   pub sheet_length : sheet ≡ sheet_figures levels corridors
 
 pub passed : (levels corridors : ℕ) (ladder km spread : List Float) (sheet : ℕ) → check_of levels corridors ladder km spread sheet ≡ no_refusal → Passed levels corridors ladder km spread sheet
-unfolding check_of
+unfolding tests_of
 passed levels corridors ladder km spread sheet e =
-    let a = only (lengths_ok levels corridors (length ladder) (length km) (length spread) sheet) e err_not_ok in
-    let b = only (counts_ok corridors levels) a.1 err_not_ok in
+    let a = passes_all (tests_of levels corridors ladder km spread sheet) e in
     let x = both (eqb (length ladder) levels && eqb (length km) corridors && eqb (length spread) corridors) (eqb sheet (sheet_figures levels corridors)) a.0 in
     let y = both (eqb (length ladder) levels && eqb (length km) corridors) (eqb (length spread) corridors) x.0 in
     let z = both (eqb (length ladder) levels) (eqb (length km) corridors) y.0 in
-    let l = passed_fault level_ok Level ladder _ b.1 in
-    let m = passed_fault length_ok Corridor km _ l.1 in
-    let n = passed_fault spread_ok Width spread _ m.1 in
     let s : length spread ≡ corridors = eqb-true (length spread) corridors y.1 in
     record {
       sound = record {
-        counts = b.0;
+        counts = a.1.0;
         ladder_length = eqb-true (length ladder) levels z.0;
         km_length = eqb-true (length km) corridors z.1;
         spread_length = s;
-        spreads = λ k h. all_spreads spread n.0 k (omega arith);
+        spreads = λ k h. a.1.1.1.1.0 k (omega arith);
       };
       sheet_length = eqb-true sheet (sheet_figures levels corridors) x.1;
     }

@@ -65,7 +65,7 @@ fn outside(figures: &[f64], least: f64, most: f64) -> Option<usize>
 }
 
 // The first refusal in order.
-#[tactic(auto, using(loops::proofs::Scan::fault_some, loops::proofs::Scan::fault_passed), unfolding(line_defs::specs::Request::check_of, line_defs::specs::Request::faulty))]
+#[tactic(auto, using(loops::proofs::Scan::fault_some, loops::proofs::Scan::fault_passed), unfolding(line_defs::specs::Request::tests_of))]
 pub fn check(
     levels: usize,
     corridors: usize,

@@ -1,21 +1,19 @@
 -- What a request that passes the checks has.
--- The tests are taken apart in their order; where no row of a table is the first faulty one, each row passes.
-use mathlib.Core.Path.{◌≡◌, sym, ◌∙◌}
-use mathlib.Core.Bool.{Bool, true, ◌&&◌}
-use Prim.Native.Nat.{ℕ, ◌<◌, ◌≤◌}
-use borrow.Author.Tests.{eqb-true, leb-true, ltb-true, ltb-false, lt-ltb, le-ltb}
+use mathlib.Core.Path.{◌≡◌, sym}
+use mathlib.Core.Bool.{true, ◌&&◌}
+use Prim.Native.Nat.{ℕ}
+use borrow.Author.Tests.{eqb-true, leb-true, ltb-true, lt-ltb, le-ltb}
 use native.Mathlib.Omega.{arith}
-use lib.Dec.{eqb, ltb, leb}
+use lib.Dec.{eqb, leb}
 use lib.ListN.{length, get_or}
 use Rattle.loops.specs.Bounds.{most_buses, most_corridors, most_generators}
 use Rattle.loops.proofs.Bools.{both}
-use Rattle.loops.proofs.Chains.{only, after, err_not_ok}
-use Rattle.loops.proofs.Scan.{all_pass, fault_some, fault_passed}
-use Rattle.loops.specs.Loops.{first, fault}
-use Rattle.refusal.specs.declared.Refusal.TheVariants.{Bus, Generator, Corridor}
-use Rattle.placement_defs.specs.Request.{Request, Net, Units, lengths_ok, counts_ok, load_at, bus_ok, corridor_at, first_load, first_generator, first_corridor, faulty_row, check_of}
-use Rattle.std.specs.Prelude.{Err, Result, Some, None}
-use Rattle.refusal.specs.declared.Refusal.{Refusal}
+use Rattle.loops.proofs.Scan.{fault_some, fault_passed}
+use Rattle.loops.proofs.Verdicts.{passes_all}
+use Rattle.loops.specs.Loops.{fault}
+use Rattle.refusal.specs.declared.Refusal.TheVariants.{Corridor}
+use Rattle.placement_defs.specs.Request.{Request, Net, Units, lengths_ok, counts_ok, load_at, bus_ok, corridor_at, tests_of, check_of}
+use Rattle.std.specs.Prelude.{Err, Some, None}
 use Rattle.refusal.specs.Reply.{no_refusal}
 
 -- ---- every slice has its length
@@ -62,48 +60,26 @@ pub record Passed (k : Request) (buses mvars : ℕ) : Type 0 where
   pub net : Net k.n k.m k.a k.b k.km
   pub units : Units k.n k.generators
 
--- ---- a table looked through: its first fault is the verdict, and without one what comes next
-pub row_faulty : (verdict : ℕ → Refusal) (ok : ℕ → Bool) (n k : ℕ) (next : Result (Unit {0}) Refusal) → Some k ≡ fault ok n → Err (verdict k) ≡ faulty_row verdict (first ok n 0) n next
-row_faulty verdict ok n k next e = let f = fault_some ok n k e in rw (← f.0, lt-ltb k n f.1)
-
-pub row_sound : (verdict : ℕ → Refusal) (ok : ℕ → Bool) (n : ℕ) (next : Result (Unit {0}) Refusal) → None ≡ fault ok n → next ≡ faulty_row verdict (first ok n 0) n next
-row_sound verdict ok n next e = rw (le-ltb (first ok n 0) n (fault_passed ok n e))
-
 -- the verdict on tables of the right lengths and counts where a corridor is the first that is faulty
 module _ (k : Request) (buses mvars : ℕ) (l : lengths_ok k buses mvars ≡ true) (c : counts_ok k.n k.m k.g ≡ true) (sound : None ≡ fault (load_at k.reading k.weight) k.n)
     (stand : None ≡ fault (λ i. bus_ok k.n (get_or k.generators i 0)) k.g) where
   pub corridor_refused : (i : ℕ) → Some i ≡ fault (corridor_at k.n k.a k.b k.km) k.m → Err (Corridor i) ≡ check_of k buses mvars
-  unfolding check_of first_load first_generator first_corridor
+  unfolding tests_of
   corridor_refused i e =
-      rw (l, c) (row_faulty Corridor (corridor_at k.n k.a k.b k.km) k.m i _ e ∙ row_sound Generator (λ i. bus_ok k.n (get_or k.generators i 0)) k.g _ stand ∙ row_sound Bus (load_at k.reading k.weight) k.n _ sound)
-
--- where no row of a table is faulty, each passes
-ends : (k : Request) → k.m ≤ first_corridor k.a k.b k.km k.n k.m → (c : ℕ) → c < k.m → corridor_at k.n k.a k.b k.km c ≡ true
-unfolding first_corridor
-ends k h = all_pass (corridor_at k.n k.a k.b k.km) k.m h
-
-stand : (k : Request) → length k.generators ≡ k.g → k.g ≤ first_generator k.generators k.n k.g → (c : ℕ) → c < length k.generators → get_or k.generators c 0 < k.n
-unfolding first_generator
-stand k q h c l = ltb-true (get_or k.generators c 0) k.n (all_pass (λ i. bus_ok k.n (get_or k.generators i 0)) k.g h c (omega arith))
+      let f = fault_some _ _ i e in
+      rw (l, c, le-ltb _ _ (fault_passed _ _ sound), le-ltb _ _ (fault_passed _ _ stand), ← f.0, lt-ltb _ _ f.1)
 
 pub passed : (k : Request) (buses mvars : ℕ) → no_refusal ≡ check_of k buses mvars → Passed k buses mvars
-unfolding check_of
+unfolding tests_of
 passed k buses mvars e =
     let n = k.n in
     let m = k.m in
     let g = k.g in
-    let load = first_load k.reading k.weight n in
-    let gen = first_generator k.generators n g in
-    let cor = first_corridor k.a k.b k.km n m in
-    let h1 = only (lengths_ok k buses mvars) (sym e) err_not_ok in
-    let h2 = only (counts_ok n m g) h1.1 err_not_ok in
-    let h3 = after (ltb load n) h2.1 err_not_ok in
-    let h4 = after (ltb gen g) h3.1 err_not_ok in
-    let h5 = after (ltb cor m) h4.1 err_not_ok in
-    let l = lengths_of k buses mvars h1.0 in
-    let counts = both (leb n most_buses) (leb m most_corridors) (both (leb n most_buses && leb m most_corridors) (leb g most_generators) h2.0).0 in
+    let h = passes_all (tests_of k buses mvars) (sym e) in
+    let l = lengths_of k buses mvars h.0 in
+    let counts = both (leb n most_buses) (leb m most_corridors) (both (leb n most_buses && leb m most_corridors) (leb g most_generators) h.1.0).0 in
     record {
       lengths = l;
-      net = record { few = leb-true n most_buses counts.0; short = leb-true m most_corridors counts.1; a_length = l.a; b_length = l.b; km_length = l.km; ends = ends k (ltb-false cor m h5.0) };
-      units = record { stand = stand k l.generators (ltb-false gen g h4.0) };
+      net = record { few = leb-true n most_buses counts.0; short = leb-true m most_corridors counts.1; a_length = l.a; b_length = l.b; km_length = l.km; ends = h.1.1.1.1.0 };
+      units = record { stand = λ c b. ltb-true _ n (h.1.1.1.0 c (omega (arith, l.generators))) };
     }

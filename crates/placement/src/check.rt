@@ -92,7 +92,7 @@ impl<'a> Request<'a> {
     }
 
     // The first refusal in order.
-    #[tactic(auto, using(crate::proofs::Checks::lengths_of, crate::proofs::Checks::corridor_refused, loops::proofs::Scan::fault_some, loops::proofs::Scan::fault_passed), unfolding(placement_defs::specs::Request::check_of, placement_defs::specs::Request::first_load, placement_defs::specs::Request::first_generator, placement_defs::specs::Request::first_corridor))]
+    #[tactic(auto, using(crate::proofs::Checks::lengths_of, crate::proofs::Checks::corridor_refused, loops::proofs::Scan::fault_some, loops::proofs::Scan::fault_passed), unfolding(placement_defs::specs::Request::tests_of))]
     pub fn check(&self, buses: usize, mvars: usize) -> Result<(), Refusal>
         ensures { result ≡ check_of self.now buses mvars }
     {

@@ -9,7 +9,7 @@ use Rattle.loops.specs.Figures.{nought, one, two, five, million, decimal}
 use Rattle.loops.specs.Loops.{iter, first, tab}
 use Rattle.loads.specs.Load.{loads_of}
 use Rattle.refusal.specs.declared.Refusal.TheVariants.{Bus, Corridor}
-use Rattle.placement_defs.specs.Request.{request_of, first_load, first_generator, first_corridor, check_of}
+use Rattle.placement_defs.specs.Request.{request_of, tests_of}
 use Rattle.placement_defs.specs.Distance.{seeded, offered, considered, nearer, nearest_to, settle, spread, turn, searched, distances_from}
 use Rattle.placement_defs.specs.Support.{farther, farthest_to, if_far, next_by, next_of, join, join_next, joined, served_to, mvar_of, sized, flagged, sites_by, placed, answer_to, placement, Outcome, outcome}
 use Rattle.std.specs.Prelude.{Err, Ok}
@@ -29,7 +29,7 @@ pub star_10 :
     ∷ outcome (Ok 1) (2 ∷ 0 ∷ 0 ∷ []) (five ∷ nought ∷ nought ∷ [])
     ∷ outcome (Ok 1) (2 ∷ 0 ∷ 0 ∷ []) (whole 20 ∷ nought ∷ nought ∷ [])
     ∷ []
-unfolding iter first tab first_load first_generator first_corridor check_of seeded offered considered nearer nearest_to settle spread turn searched distances_from farther farthest_to if_far next_by next_of join join_next joined served_to mvar_of sized flagged sites_by placed answer_to placement of_bits round add mul lt le eq
+unfolding iter first tab tests_of seeded offered considered nearer nearest_to settle spread turn searched distances_from farther farthest_to if_far next_by next_of join join_next joined served_to mvar_of sized flagged sites_by placed answer_to placement of_bits round add mul lt le eq
 star_10 = refl
 
 -- Two buses equally far: the lower one joins, and then serves the other.
@@ -47,7 +47,7 @@ pub rules :
     ∷ outcome (Ok 1) (2 ∷ 0 ∷ 0 ∷ []) (five ∷ nought ∷ nought ∷ [])
     ∷ outcome (Err (Corridor 1)) (7 ∷ 7 ∷ []) (five ∷ five ∷ [])
     ∷ []
-unfolding iter first tab first_load first_generator first_corridor check_of seeded offered considered nearer nearest_to settle spread turn searched distances_from farther farthest_to if_far next_by next_of join join_next joined served_to mvar_of sized flagged sites_by placed answer_to placement of_bits round add mul lt le eq
+unfolding iter first tab tests_of seeded offered considered nearer nearest_to settle spread turn searched distances_from farther farthest_to if_far next_by next_of join join_next joined served_to mvar_of sized flagged sites_by placed answer_to placement of_bits round add mul lt le eq
 rules = refl
 
 -- What is placed as loads: each reading times its weight. `weights` below computes one, but a wrong figure there ends in no verdict.
@@ -63,5 +63,5 @@ pub weights :
     ≡ outcome (Ok 1) (1 ∷ 0 ∷ []) (whole 20 ∷ nought ∷ [])
     ∷ outcome (Err (Bus 1)) (7 ∷ 7 ∷ []) (five ∷ five ∷ [])
     ∷ []
-unfolding iter first tab first_load first_generator first_corridor check_of seeded offered considered nearer nearest_to settle spread turn searched distances_from farther farthest_to if_far next_by next_of join join_next joined served_to mvar_of sized flagged sites_by placed answer_to placement of_bits round add mul lt le eq
+unfolding iter first tab tests_of seeded offered considered nearer nearest_to settle spread turn searched distances_from farther farthest_to if_far next_by next_of join join_next joined served_to mvar_of sized flagged sites_by placed answer_to placement of_bits round add mul lt le eq
 weights = refl

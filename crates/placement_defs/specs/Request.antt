@@ -1,12 +1,11 @@
 -- What placement is asked, and its refusals 1, 2, 4, 5 and 6 in their order (document 01, "Placement").
-use Rattle.std.specs.Prelude.{◌≡◌, List, Bool, true, not, cond, ◌&&◌, ℕ, ◌≤◌, ◌<◌, eqb, leb, ltb, length, get_or, Float, Err, Result}
+use Rattle.std.specs.Prelude.{◌≡◌, List, [], ◌∷◌, Bool, true, not, ◌&&◌, ℕ, ◌≤◌, ◌<◌, eqb, leb, ltb, length, get_or, Float, Result}
 pub use Rattle.loops.specs.Bounds.{most_buses, most_corridors, most_generators}
 use Rattle.loops.specs.Figures.{at, inside, nought, ten_thousand}
-use Rattle.loops.specs.Loops.{first}
+use Rattle.loops.specs.Verdict.{Test, holds, each, verdict}
 use Rattle.loads.specs.Load.{weighed, loads_of, load_ok}
 use Rattle.refusal.specs.declared.Refusal.{Refusal}
 use Rattle.refusal.specs.declared.Refusal.TheVariants.{Length, Count, Bus, Generator, Corridor}
-use Rattle.refusal.specs.Reply.{no_refusal}
 
 -- n buses with their readings, the readings' weights and their loads in MW, m corridors of km between a and b, g generators by their buses
 pub record Request : Type 0 where
@@ -51,29 +50,18 @@ corridor_ok n a b km = ltb a n && ltb b n && not (eqb a b) && inside nought ten_
 abbrev pub corridor_at : ℕ → List ℕ → List ℕ → List Float → ℕ → Bool
 corridor_at n a b km c = corridor_ok n (get_or a c 0) (get_or b c 0) (at km c)
 
--- the first faulty row of each table, or its count where there is none
-unfoldable pub first_load : List Float → List Float → ℕ → ℕ
-first_load reading weight n = first (load_at reading weight) n 0
+-- the tests in order
+unfoldable pub tests_of : Request → ℕ → ℕ → List (Test Refusal)
+tests_of k buses mvars =
+    holds (lengths_ok k buses mvars) Length
+    ∷ holds (counts_ok k.n k.m k.g) Count
+    ∷ each (load_at k.reading k.weight) Bus k.n
+    ∷ each (λ i. bus_ok k.n (get_or k.generators i 0)) Generator k.g
+    ∷ each (corridor_at k.n k.a k.b k.km) Corridor k.m
+    ∷ []
 
-unfoldable pub first_generator : List ℕ → ℕ → ℕ → ℕ
-first_generator generators n g = first (λ i. bus_ok n (get_or generators i 0)) g 0
-
-unfoldable pub first_corridor : List ℕ → List ℕ → List Float → ℕ → ℕ → ℕ
-first_corridor a b km n m = first (corridor_at n a b km) m 0
-
--- where row i of a table of n is faulty, that is the verdict
-abbrev pub faulty_row : (ℕ → Refusal) → ℕ → ℕ → Result (Unit {0}) Refusal → Result (Unit {0}) Refusal
-faulty_row fault i n next = cond (ltb i n) (Err (fault i)) next
-
-unfoldable pub check_of : Request → ℕ → ℕ → Result (Unit {0}) Refusal
-check_of k buses mvars =
-    cond (lengths_ok k buses mvars)
-    (cond (counts_ok k.n k.m k.g)
-    (faulty_row Bus (first_load k.reading k.weight k.n) k.n
-    (faulty_row Generator (first_generator k.generators k.n k.g) k.g
-    (faulty_row Corridor (first_corridor k.a k.b k.km k.n k.m) k.m no_refusal)))
-    (Err Count))
-    (Err Length)
+abbrev pub check_of : Request → ℕ → ℕ → Result (Unit {0}) Refusal
+check_of k buses mvars = verdict (tests_of k buses mvars)
 
 -- what a request that passes has
 pub record Net (n m : ℕ) (a b : List ℕ) (km : List Float) : Type 0 where

@@ -17,7 +17,7 @@ use Rattle.angles_defs.specs.Solve.{solve}
 use Rattle.mode.specs.declared.PlanMode.{PlanMode}
 use Rattle.mode.specs.declared.PlanMode.TheVariants.{Expand, Reinforce}
 use Rattle.refusal.specs.Reply.{Reply, answered, refused}
-use Rattle.placement_defs.specs.Request.{request_of, first_load, first_generator, first_corridor, check_of}
+use Rattle.placement_defs.specs.Request.{request_of, tests_of}
 use Rattle.placement_defs.specs.Distance.{seeded, offered, considered, nearer, nearest_to, settle, spread, turn, searched, distances_from}
 use Rattle.placement_defs.specs.Support.{farther, farthest_to, if_far, next_by, next_of, join, join_next, joined, served_to, mvar_of, sized, flagged, sites_by, placed, answer_to, placement, Outcome}
 use Rattle.plan_defs.specs.Case.{Case, surveyed, promote, circuit_cap}
@@ -81,7 +81,7 @@ remote km mw =
     (placement (request_of 3 2 1 (nought ∷ nought ∷ whole mw ∷ []) (replicate 3 one) (0 ∷ 1 ∷ []) (1 ∷ 2 ∷ []) (whole km ∷ whole km ∷ []) (0 ∷ [])) (replicate 3 0) (replicate 3 nought))
 
 unfoldable pub tally : List (List ℕ)
-unfolding whole_plan first tab first_load first_generator first_corridor check_of seeded offered considered nearer nearest_to settle spread turn searched distances_from farther farthest_to if_far next_by next_of join join_next joined served_to mvar_of sized flagged sites_by placed answer_to placement
+unfolding whole_plan first tab tests_of seeded offered considered nearer nearest_to settle spread turn searched distances_from farther farthest_to if_far next_by next_of join join_next joined served_to mvar_of sized flagged sites_by placed answer_to placement
 tally =
     -- ★1
     bits (root (decimal 1 4) ∷ root (of_bits binary64 1) ∷ [])

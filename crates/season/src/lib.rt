@@ -64,7 +64,7 @@ fn even_with(season: &Season, corridors: usize) -> bool
     season.taken == 0 || corridors == season.corridors
 }
 
-#[tactic(auto, unfolding(season_defs::specs::Feeding::check_of))]
+#[tactic(auto, unfolding(season_defs::specs::Feeding::tests_of))]
 fn check(season: &Season, corridors: usize, places: usize) -> Result<(), Refusal>
     ensures { result ≡ check_of season.now corridors places }
 {

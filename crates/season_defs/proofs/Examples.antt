@@ -9,7 +9,7 @@ use Rattle.refusal.specs.Number.{number_of, index_of}
 use Rattle.refusal.specs.Reply.{answered, refused}
 use Rattle.season_defs.specs.Terms.{euclid, divisor, lowest}
 use Rattle.season_defs.specs.Plans.{Draft}
-use Rattle.season_defs.specs.Feeding.{begun, check_of, updated, with_plan, fed_by, feed, no_figures, corridor_figures, season_figures, fed_all}
+use Rattle.season_defs.specs.Feeding.{begun, tests_of, updated, with_plan, fed_by, feed, no_figures, corridor_figures, season_figures, fed_all}
 use Rattle.season_defs.specs.declared.Season.{Season}
 use Rattle.season_defs.specs.declared.CorridorFigures.{CorridorFigures}
 
@@ -24,11 +24,11 @@ at least greatest over under = record { least = least; greatest = greatest; mean
 
 -- at each index and past the corridors
 pub figures : corridor_figures three 0 ∷ corridor_figures three 1 ∷ corridor_figures three 2 ∷ corridor_figures begun 0 ∷ [] ≡ at 1 4 7 3 ∷ at 4 4 4 1 ∷ no_figures ∷ no_figures ∷ []
-unfolding begun check_of updated with_plan fed_by feed fed_all corridor_figures lowest divisor euclid tab
+unfolding begun tests_of updated with_plan fed_by feed fed_all corridor_figures lowest divisor euclid tab
 figures = refl
 
 pub figures_over_lem : season_figures three ≡ record { plans = 3; rounds = record { over = 7; under = 3 }; converged = record { over = 2; under = 3 } }
-unfolding begun check_of updated with_plan fed_by feed fed_all season_figures lowest divisor euclid tab
+unfolding begun tests_of updated with_plan fed_by feed fed_all season_figures lowest divisor euclid tab
 figures_over_lem = refl
 
 -- a season that has taken n plans of two corridors
@@ -38,7 +38,7 @@ of_two n = record { taken = n; corridors = 2; rounds = 0; converged = 0; least =
 -- another count is 19, also where the season is full; then 20
 pub said_of : (feed (of_two 4096) (draft (1 ∷ []) 0 true)).reply ∷ (feed (of_two 4096) (draft (1 ∷ 1 ∷ []) 0 true)).reply ∷ (feed (of_two 4095) (draft (1 ∷ 1 ∷ []) 0 true)).reply ∷ []
     ≡ refused 19 0 ∷ refused 20 0 ∷ answered tt ∷ []
-unfolding check_of fed_by feed number_of index_of
+unfolding tests_of fed_by feed number_of index_of
 said_of = refl
 
 -- 0 over any number is 0 over 1

@@ -6,7 +6,7 @@ use lib.Ieee.{Float}
 use Rattle.loops.specs.Figures.{float}
 use Rattle.loops.specs.Loops.{tab}
 use Rattle.refusal.specs.declared.Refusal.TheVariants.{Length, Count}
-use Rattle.sheets.specs.Request.{check_of}
+use Rattle.sheets.specs.Request.{tests_of, check_of}
 use Rattle.sheets.specs.Sheet.{by_level}
 use Rattle.std.specs.Prelude.{Err}
 use Rattle.refusal.specs.Reply.{no_refusal}
@@ -21,5 +21,5 @@ laid = refl
 answers :
     check_of 256 5 6_400 6_400 ∷ check_of 0 1 0 0 ∷ check_of 257 1 1_285 1_285 ∷ check_of 1 6 30 30 ∷ check_of 1 0 0 0 ∷ check_of 1 6 30 29 ∷ check_of 3 2 29 30 ∷ []
     ≡ no_refusal ∷ no_refusal ∷ Err Count ∷ Err Count ∷ Err Count ∷ Err Length ∷ Err Length ∷ []
-unfolding check_of
+unfolding tests_of
 answers = refl

@@ -8,9 +8,9 @@ use lib.Dec.{eqb}
 use lib.ListN.{length}
 use lib.Ieee.{Float}
 use Rattle.loops.proofs.Bools.{both}
-use Rattle.loops.proofs.Chains.{only, err_not_ok}
+use Rattle.loops.proofs.Verdicts.{passes_all}
 use Rattle.refusal.specs.declared.Refusal.{Refusal}
-use Rattle.sheets.specs.Request.{lengths_ok, check_of, Sized, outcome, laid_by, lay_out}
+use Rattle.sheets.specs.Request.{tests_of, check_of, Sized, outcome, laid_by, lay_out}
 use Rattle.sheets.specs.Sheet.{row_figures, line_of, by_level}
 use Rattle.sheets.proofs.Layouts.{some_row, line_inside}
 use Rattle.std.specs.Prelude.{Err}
@@ -19,9 +19,9 @@ use Rattle.refusal.specs.Reply.{no_refusal}
 -- ---- the check
 module _ (m n size to : ℕ) where
   pub passed : check_of m n size to ≡ no_refusal → Sized m n size to
-  unfolding check_of
+  unfolding tests_of
   passed e =
-      let s = both (eqb size (row_figures * (m * n))) (eqb to (row_figures * (m * n))) (only (lengths_ok m n size to) e err_not_ok).0 in
+      let s = both (eqb size (row_figures * (m * n))) (eqb to (row_figures * (m * n))) (passes_all (tests_of m n size to) e).0 in
       record { from_size = eqb-true size _ s.0; to_size = eqb-true to _ s.1 }
 
 -- ---- the figure that is read for place p

@@ -1,8 +1,9 @@
 -- K11: a caller lays the rows of a sheet by corridor out by level. Refusals of document 01: 1, a sheet has not its length; 2, a count is outside its bounds. A refusal touches nothing.
-use Rattle.std.specs.Prelude.{ℕ, ◌*◌, Bool, cond, ◌&&◌, List, ◌≡◌, eqb, leb, length, Float, Err, Ok, Result}
+use Rattle.std.specs.Prelude.{ℕ, ◌*◌, Bool, ◌&&◌, List, [], ◌∷◌, ◌≡◌, eqb, leb, length, Float, Err, Ok, Result}
 use Rattle.refusal.specs.Reply.{Reply, reply_of, no_refusal}
 use Rattle.refusal.specs.declared.Refusal.TheVariants.{Length, Count}
 use Rattle.loops.specs.Bounds.{most_corridors, most_levels}
+use Rattle.loops.specs.Verdict.{Test, holds, verdict}
 use Rattle.sheets.specs.Sheet.{row_figures, by_level}
 use Rattle.refusal.specs.declared.Refusal.{Refusal}
 
@@ -14,8 +15,11 @@ lengths_ok m n from to = eqb from (row_figures * (m * n)) && eqb to (row_figures
 abbrev pub counts_ok : ℕ → ℕ → Bool
 counts_ok m n = leb 1 n && leb n most_levels && leb m most_corridors
 
-unfoldable pub check_of : ℕ → ℕ → ℕ → ℕ → Result (Unit {0}) Refusal
-check_of m n from to = cond (lengths_ok m n from to) (cond (counts_ok m n) no_refusal (Err Count)) (Err Length)
+unfoldable pub tests_of : ℕ → ℕ → ℕ → ℕ → List (Test Refusal)
+tests_of m n from to = holds (lengths_ok m n from to) Length ∷ holds (counts_ok m n) Count ∷ []
+
+abbrev pub check_of : ℕ → ℕ → ℕ → ℕ → Result (Unit {0}) Refusal
+check_of m n from to = verdict (tests_of m n from to)
 
 -- what two sheets that pass have
 pub record Sized (m n from to : ℕ) : Type 0 where

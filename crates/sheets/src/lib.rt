@@ -69,7 +69,7 @@ pub fn counts_ok(corridors: usize, levels: usize) -> bool
     1 <= levels && levels <= MOST_LEVELS && corridors <= MOST_CORRIDORS
 }
 
-#[tactic(auto, unfolding(crate::specs::Request::check_of))]
+#[tactic(auto, unfolding(crate::specs::Request::tests_of))]
 fn check(corridors: usize, levels: usize, from: usize, to: usize) -> Result<(), Refusal>
     ensures { result ≡ check_of corridors levels from to }
 {

@@ -10,7 +10,7 @@ use Rattle.casefile_defs.specs.Tables.{Places, places_of, sizes_ok}
 use Rattle.casefile_defs.specs.declared.Header.{Header}
 use Rattle.small.specs.declared.order.Shape.{Shape}
 use Rattle.small.specs.Networks.{all_places, network_at}
-use Rattle.small.specs.Tables.{header_of, header_at, tables_at, made, small_network}
+use Rattle.small.specs.Tables.{header_of, header_at, tables_at, made, tests_of, small_network}
 use Rattle.small.specs.Columns.{shape_at, corridor_count, counted, header_for}
 use Rattle.small.proofs.Filled.{buses, corridors_counted}
 use Rattle.std.specs.Prelude.{Err, Ok}
@@ -23,15 +23,15 @@ pub places_same : {ladder ladder' : List Float} {tier tier' : List ℕ} {reading
 places_same e0 e1 e2 e3 e4 e5 e6 e7 e8 e9 e10 e11 e12 e13 e14 e15 e16 = cc
 
 pub made_whole : (i : ℕ) (p q : Places) {s : Shape} {g : Header} → i < all_places → sizes_ok p ≡ true → s ≡ shape_at i → g ≡ header_for s → q ≡ tables_at i → made (Ok g) q ≡ small_network i p
-unfolding small_network header_of
+unfolding small_network tests_of header_of
 made_whole i p q {s} {g} h z e f t =
     let v : g ≡ header_at i = f ∙ ap (λ (n : ℕ). counted n (corridor_count s.corridors)) (buses i h e) ∙ ap (λ (n : ℕ). counted (network_at i).buses n) (corridors_counted i h e) in
     simp (z, lt-ltb i all_places h, v, t)
 
 pub lengths_refused : (i : ℕ) (p : Places) → sizes_ok p ≡ false → made (Err Length) p ≡ small_network i p
-unfolding small_network
+unfolding small_network tests_of
 lengths_refused i p e = simp e
 
 pub place_refused : (i : ℕ) (p : Places) → sizes_ok p ≡ true → all_places ≤ i → made (Err Place) p ≡ small_network i p
-unfolding small_network
+unfolding small_network tests_of
 place_refused i p e h = simp (e, le-ltb i all_places h)

@@ -10,7 +10,7 @@ use Rattle.mode.specs.declared.PlanMode.TheVariants.{Observe}
 use Rattle.casefile_defs.specs.Bounds.{most_levels, most_buses, most_generators, most_corridors, most_sheet, row_figures}
 use Rattle.casefile_defs.specs.Tables.{Places, places_of, sizes_ok, reply_of}
 use Rattle.casefile_defs.specs.declared.Header.{Header}
-use Rattle.small.specs.Networks.{Network, pairs, network_at, all_places}
+use Rattle.small_defs.specs.Networks.{Network, pairs, network_at, all_places}
 use Rattle.refusal.specs.declared.Refusal.{Refusal}
 
 -- ---- figures: the level's kV; a corridor's km, and a load in MW; the generator's costs

@@ -7,8 +7,8 @@ use Rattle.refusal.specs.Number.{number_of, index_of}
 use Rattle.refusal.specs.declared.Refusal.{Refusal}
 use Rattle.plan_defs.specs.Listing.{flag}
 use Rattle.plan_defs.specs.declared.CorridorPlan.{CorridorPlan}
-use Rattle.listing.specs.Text.{line_feed, number, figure, field}
-use Rattle.listing.specs.declared.text.Field.{Field}
+use Rattle.listing_defs.specs.Text.{line_feed, number, figure, field}
+use Rattle.listing_defs.specs.declared.Field.{Field}
 
 -- fields one behind another, with the line feed behind them
 abbrev pub ended : List (List ℕ) → List ℕ

@@ -10,9 +10,9 @@ use Rattle.plan_defs.specs.declared.CorridorPlan.{CorridorPlan}
 use Rattle.plan_defs.specs.Design.{line_of}
 use Rattle.plan_defs.specs.Outcome.{summary as plan_summary}
 use Rattle.plan_defs.proofs.Examples.{sample}
-use Rattle.listing.specs.Text.{decimal, hexadecimal, number, figure}
-use Rattle.listing.specs.Lines.{plan_line, added_line, ground_line, bus_line, generator_line, corridor_line, most_line, lines}
-use Rattle.listing.specs.Listing.{listed, plan_text}
+use Rattle.listing_defs.specs.Text.{decimal, hexadecimal, number, figure}
+use Rattle.listing_defs.specs.Lines.{plan_line, added_line, ground_line, bus_line, generator_line, corridor_line, most_line, lines}
+use Rattle.listing_defs.specs.Listing.{listed, plan_text}
 
 abbrev pub bits : ℕ → Float
 bits n = of_bits binary64 n

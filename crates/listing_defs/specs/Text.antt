@@ -1,8 +1,8 @@
 -- The text of a field of the listing, in ASCII: document 01, "Case file", last paragraph.
 use Rattle.std.specs.Prelude.{ℕ, zero, suc, ◌+◌, ◌/◌, ◌%◌, cond, List, [], ◌∷◌, ◌++◌, ltb, Float}
 use Rattle.plan_defs.specs.Listing.{bits_of}
-use Rattle.listing.specs.declared.text.Field.{Field}
-use Rattle.listing.specs.declared.text.Field.TheVariants.{Number, Figure}
+use Rattle.listing_defs.specs.declared.Field.{Field}
+use Rattle.listing_defs.specs.declared.Field.TheVariants.{Number, Figure}
 
 abbrev pub space : ℕ
 space = 32

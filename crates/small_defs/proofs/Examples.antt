@@ -5,7 +5,7 @@ use mathlib.Core.Path.{◌≡◌, refl}
 use Rattle.casefile_defs.specs.Tables.{Places, sizes_ok}
 use Rattle.refusal.specs.declared.Refusal.TheVariants.{Place}
 use Rattle.small_defs.specs.Networks.{bits, numbered, buses_at, number_at, network_at}
-use Rattle.small_defs.specs.Tables.{chosen, corridors_of, header_at, tables_at, made, small_network}
+use Rattle.small_defs.specs.Tables.{chosen, corridors_of, header_at, tables_at, made, tests_of, small_network}
 use Rattle.std.specs.Prelude.{Err, Ok}
 
 pub by_hand : network_at 1 ∷ network_at 6 ∷ network_at 13 ∷ network_at 58 ∷ network_at 73 ∷ []
@@ -25,9 +25,9 @@ corridors_by_hand = refl
 
 -- place 73 has the last network, and 74 has none
 pub last : (p : Places) → sizes_ok p ≡ true → small_network 73 p ≡ made (Ok (header_at 73)) (tables_at 73)
-unfolding small_network
+unfolding small_network tests_of
 last p e = rw e refl
 
 pub past_the_last : (p : Places) → sizes_ok p ≡ true → small_network 74 p ≡ made (Err Place) p
-unfolding small_network
+unfolding small_network tests_of
 past_the_last p e = rw e refl

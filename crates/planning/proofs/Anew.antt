@@ -66,9 +66,9 @@ module _ (grid : GridColumns) (level : List ℕ) (supply : SupplyColumns) (floor
   shared_is : get_or shared lo 0 ≡ transformer_corridors (ends_for grid) level lo
   shared_is = tab_read 0 most_buses (transformer_corridors (ends_for grid) level) shared lo shared-are lo_few
 
-  -- ---- a fresh bank is above 0 and finite: 128 units give at most 128e6 MW
+  -- ---- a fresh bank is above 0 and finite: each unit gives at most 1e6 MW
   abbrev top : ℕ
-  top = 128_000_000
+  top = most_generators * 1_000_000
 
   load_most : Most top (at supply.load lo)
   load_most = most_more 1_000_000 top (at supply.load lo) (lit≤ tt) (million_most (at supply.load lo) (supplied.loads lo (omega (arith, lo_below, size))))

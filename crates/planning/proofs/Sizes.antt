@@ -5,7 +5,7 @@ use Rattle.std.specs.Bool.{then_some}
 use Rattle.std.proofs.lemmas.Option.{none-some, same_Some}
 use native.Mathlib.Decide.{ℕ_discrete}
 use lib.Ieee.{Float, lt}
-use Rattle.loops.specs.Bounds.{most_initial}
+use Rattle.loops.specs.Bounds.{most_initial, most_cap}
 use Rattle.loops.proofs.Bools.{both}
 use Rattle.impedance.specs.Impedance.{rating_ok}
 use Rattle.mode.specs.declared.PlanMode.{PlanMode}
@@ -46,7 +46,7 @@ larger_none true next e = absurd (none-some next e)
 larger_none false next e = refl
 
 -- ---- more circuits
-pub few_set : (circuits : List ℕ) (k n : ℕ) → k < length circuits → n ≤ 6 → Few circuits → Few (set circuits k n)
+pub few_set : (circuits : List ℕ) (k n : ℕ) → k < length circuits → n ≤ most_cap → Few circuits → Few (set circuits k n)
 few_set circuits k n h l f j = go (ℕ_discrete j k)
   where
     go : Dec (j ≡ k) → get_or (set circuits k n) j 0 ≤ most_initial
@@ -60,7 +60,7 @@ module _ (cap need k : ℕ) (circuits : List ℕ) (t : Tally) (most : ℕ) (p : 
       let s = sized_of designs floors upsized circuits marks t in
       ap (λ (n : ℕ). add_if b k n (t.capped || ltb cap need) s) p ∙ ap (λ (x : Bool). add_if x k (min need cap) (t.capped || ltb cap need) s) (sym e)
 
-  pub added_more : k < length circuits → cap ≤ 6 → get_or circuits k 0 < most
+  pub added_more : k < length circuits → cap ≤ most_cap → get_or circuits k 0 < most
       → Adds cap need k circuits t (set circuits k most) (record { capacity = t.capacity + (most - get_or circuits k 0); added = true; capped = t.capped || ltb cap need })
   unfolding set_count
   added_more h l w =
@@ -111,7 +111,7 @@ module _ (mode : PlanMode) (level : List ℕ) (grid : GridColumns) (k : ℕ) (re
           few = λ f. f;
         }
 
-    pub grown_added : (most : ℕ) (circuits' : List ℕ) (t' : Tally) → raised ≡ false → most ≡ cap_by mode (get_or grid.cap k 0) d.kv → most ≤ 6
+    pub grown_added : (most : ℕ) (circuits' : List ℕ) (t' : Tally) → raised ≡ false → most ≡ cap_by mode (get_or grid.cap k 0) d.kv → most ≤ most_cap
         → Adds most need k circuits t circuits' t'
         → Grows C level required k d circuits marks t circuits' marks' t'
     unfolding cap_at

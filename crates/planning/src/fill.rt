@@ -14,11 +14,11 @@ use crate::keys::Keys;
 use crate::policy::{full_at, promotes};
 use crate::tables::Grid;
 use arrayvec::ArrayVec;
-use loops::{MOST_CORRIDORS, magnitude};
+use loops::{MOST_CAP, MOST_CORRIDORS, magnitude};
 use mode::PlanMode;
 
 // As many turns as a cap may be fill every corridor, or reach the target.
-const FILL_TURNS: u32 = 6;
+const FILL_TURNS: u32 = MOST_CAP;
 
 // ---- what the order goes by
 pub fn loading(flow: f64, count: u32, rate: f64) -> f64

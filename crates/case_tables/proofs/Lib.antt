@@ -1,2 +1,3 @@
--- The sizes of the tables.
+-- The sizes of the tables, and their names.
 pub mod Sized
+pub mod Named

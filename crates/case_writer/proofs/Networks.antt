@@ -29,8 +29,8 @@ use Rattle.casefile_writer.specs.Put.{Put}
 use Rattle.casefile_writer.specs.Words.{weighs}
 use Rattle.casefile_writer.proofs.Lent.{within}
 use Rattle.casefile_writer.proofs.Puts.{same_bytes}
-use Rattle.small.specs.Networks.{all_places}
-use Rattle.small.specs.Tables.{padded, laid_out, header_at, tables_at, Made, made, small_network}
+use Rattle.small_defs.specs.Networks.{all_places}
+use Rattle.small_defs.specs.Tables.{padded, laid_out, header_at, tables_at, Made, made, small_network}
 use Rattle.small_theorems.specs.Held.{file_at}
 use Rattle.small_theorems.proofs.Accepted.{sound_at}
 use Rattle.small_theorems.proofs.Theorems.{weights_one}

@@ -4,7 +4,7 @@ use Rattle.refusal.specs.Number.{number_of, index_of}
 use Rattle.refusal.specs.declared.Refusal.{Refusal}
 use Rattle.casefile_theorems.specs.Cases.{longest}
 use Rattle.casefile_writer.specs.Put.{Put}
-use Rattle.small.specs.Networks.{all_places}
+use Rattle.small_defs.specs.Networks.{all_places}
 use Rattle.small_theorems.specs.Held.{file_at}
 
 -- the bytes of a place, put at the front of a buffer

@@ -11,3 +11,4 @@ pub mod Theorems
 pub mod Moving
 pub mod RoundTrip
 pub mod Padding
+pub mod Examples

@@ -16,10 +16,11 @@ use Rattle.plan_defs.specs.declared.CircuitDesign.{CircuitDesign}
 use Rattle.casefile_defs.specs.Reading.{reading_of}
 use Rattle.casefile_defs.specs.Tables.{tables_of}
 use Rattle.casefile_defs.specs.declared.Header.{Header}
-use Rattle.listing.specs.Text.{number, figure}
-use Rattle.listing.specs.Lines.{line, lines, refusal_line, plan_line, added_line, added_lines, ground_line, ground_lines, bus_line, bus_lines, generator_line, generator_lines, corridor_line, corridor_lines, most_line}
+use Rattle.listing_defs.specs.Text.{number, figure}
+use Rattle.listing_defs.specs.Lines.{line, lines, refusal_line, plan_line, added_line, added_lines, ground_line, ground_lines, bus_line, bus_lines, generator_line, generator_lines, corridor_line, corridor_lines, most_line}
 use Rattle.case_defs.specs.Cases.{case_in}
-use Rattle.listing.specs.Listing.{plan_text, ending_text, read_text, file_text}
+use Rattle.listing_defs.specs.Listing.{plan_text, ending_text}
+use Rattle.listing.specs.Listing.{read_text, file_text}
 use Rattle.listing.specs.Figures.{bits_field, bits_at, figures_text}
 use Rattle.std.specs.Prelude.{Ok, Result}
 use Rattle.refusal.specs.declared.Refusal.{Refusal}

@@ -3,6 +3,5 @@ pub mod Numbers
 pub mod Turns
 pub mod Rooms
 pub mod Outcomes
-pub mod Examples
 pub mod Figures
 pub mod Forms

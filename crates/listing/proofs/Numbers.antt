@@ -20,7 +20,7 @@ use Rattle.loops.proofs.Bits.{only_nan}
 use Rattle.loops.proofs.Fronts.{get_map}
 use Rattle.loops.proofs.Tab.{get_tab}
 use Rattle.plan_defs.specs.Listing.{bits_of}
-use Rattle.listing.specs.Text.{space, digit, hexadecimal, decimal, number, figure}
+use Rattle.listing_defs.specs.Text.{space, digit, hexadecimal, decimal, number, figure}
 
 -- ---- a field's length
 length_hexadecimal : (k n : ℕ) → length (hexadecimal k n) ≡ k

@@ -22,9 +22,10 @@ use Rattle.casefile_defs.specs.declared.Header.{Header}
 use Rattle.case_defs.specs.Cases.{case_in}
 use Rattle.planned_files.specs.Files.{Filed, plan_read, plan_file, filed_of}
 use Rattle.planned_files.specs.declared.file.PlannedFile.{PlannedFile}
-use Rattle.listing.specs.Text.{number}
-use Rattle.listing.specs.Lines.{line, refusal_line, most_text}
-use Rattle.listing.specs.Listing.{listed, planned_lines, plan_text, ending_text, read_text, file_text}
+use Rattle.listing_defs.specs.Text.{number}
+use Rattle.listing_defs.specs.Lines.{line, refusal_line, most_text}
+use Rattle.listing_defs.specs.Listing.{listed, plan_text, ending_text}
+use Rattle.listing.specs.Listing.{planned_lines, read_text, file_text}
 use Rattle.listing.proofs.Rooms.{planned_short}
 use Rattle.std.proofs.lemmas.List.{take-take}
 use Rattle.std.specs.Prelude.{Err, Ok, Result}

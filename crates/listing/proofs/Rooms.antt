@@ -13,7 +13,7 @@ use Rattle.plan_defs.specs.Listing.{flag}
 use Rattle.plan_defs.specs.declared.CorridorPlan.{CorridorPlan}
 use Rattle.casefile_defs.specs.Bounds.{most_buses, most_levels}
 use Rattle.planned_files.specs.declared.file.PlannedFile.{PlannedFile}
-use Rattle.listing.specs.Lines.{lines, plan_room, line_room, most_text, refusal_line, plan_line, added_line, ground_line, bus_line, generator_line, corridor_line, most_line}
+use Rattle.listing_defs.specs.Lines.{lines, plan_room, line_room, most_text, refusal_line, plan_line, added_line, ground_line, bus_line, generator_line, corridor_line, most_line}
 use Rattle.listing.specs.Listing.{planned_lines}
 use Rattle.listing.proofs.Numbers.{length_number, length_figure}
 

@@ -7,10 +7,10 @@ use native.Mathlib.Numerals.{add-one}
 use native.Mathlib.Decide.{dec_lt}
 use lib.ListN.{length, get_or, drop, drop_of_length-le, length-append}
 use lib.Seq.{drop-cons}
-use Rattle.listing.specs.Text.{field, line_feed}
-use Rattle.listing.specs.Lines.{lines, ended}
-use Rattle.listing.specs.declared.text.Field.{Field}
-use Rattle.listing.specs.declared.text.Field.TheVariants.{Number}
+use Rattle.listing_defs.specs.Text.{field, line_feed}
+use Rattle.listing_defs.specs.Lines.{lines, ended}
+use Rattle.listing_defs.specs.declared.Field.{Field}
+use Rattle.listing_defs.specs.declared.Field.TheVariants.{Number}
 
 -- two texts put one behind the other are one text
 pub both_put : (a t u : List ℕ) {b c v : List ℕ} → b ≡ a ++ t → c ≡ b ++ u → t ++ u ≡ v → c ≡ a ++ v

@@ -11,7 +11,7 @@ use Rattle.std.proofs.lemmas.List.{get_or_default}
 use Rattle.std.proofs.lemmas.List.FromFn.{length-enumerate_from, get_or-enumerate_from}
 use Rattle.std.proofs.lemmas.Slice.Zip.{length-zip, get_or-zip}
 use Rattle.loops.specs.Figures.{at}
-use Rattle.listing.specs.Lines.{bus_line, corridor_line}
+use Rattle.listing_defs.specs.Lines.{bus_line, corridor_line}
 
 enumerated : {Z : Type 0} (zs : List Z) (n i : ℕ) (z : Z) → n < length (enumerate_from 0 zs) → (i, z) ≡ get_or (enumerate_from 0 zs) n (i, z)
     → (n < length zs) × (i ≡ n) × (z ≡ get_or zs n z)

@@ -3,8 +3,8 @@
 use Rattle.std.specs.Prelude.{ℕ, cond, List, [], ◌∷◌, map, ◌++◌, eqb, length, get_or}
 use Rattle.std.specs.Float.{nan}
 use Rattle.plan_defs.specs.Listing.{bits_of}
-use Rattle.listing.specs.Text.{space, hexadecimal, number}
-use Rattle.listing.specs.Lines.{line, lines}
+use Rattle.listing_defs.specs.Text.{space, hexadecimal, number}
+use Rattle.listing_defs.specs.Lines.{line, lines}
 
 -- a field by its bits; past the end of a column stands a NaN's, as it does of the column itself
 abbrev pub bits_field : ℕ → List ℕ

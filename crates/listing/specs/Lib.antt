@@ -1,4 +1,2 @@
-pub mod Text
-pub mod Lines
 pub mod Listing
 pub mod Figures

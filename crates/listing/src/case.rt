@@ -1,7 +1,7 @@
 // The listing of a case file.
 ghost use Rattle.std.specs.Prelude.{◌≡◌, ◌+◌, ◌≤◌, [], ◌++◌, length};
 ghost use Rattle.casefile_defs.specs.Bounds.{most_buses, most_levels};
-ghost use Rattle.listing.specs.Lines.{most_text};
+ghost use Rattle.listing_defs.specs.Lines.{most_text};
 ghost use Rattle.listing.specs.Listing.{file_text, planned_lines};
 
 use crate::text::Text;

@@ -1,15 +1,16 @@
 // The lines of the listing.
 ghost use Rattle.std.specs.Prelude.{◌≡◌, ◌+◌, ◌≤◌, ◌++◌, length};
-ghost use Rattle.listing.specs.Lines.{refusal_line, plan_line, added_lines, ground_lines, bus_lines, generator_lines, corridor_lines, most_line, most_text};
+ghost use Rattle.listing_defs.specs.Lines.{refusal_line, plan_line, added_lines, ground_lines, bus_lines, generator_lines, corridor_lines, most_line, most_text};
 
-use crate::text::{Field, Text};
+use crate::text::Text;
+use listing_defs::Field;
 use mode::PlanMode;
 use plan_defs::CorridorPlan;
 use refusal::Refusal;
 
 impl Text {
     // RF number index, put as every line is: by its fields, from which the definition makes it.
-    #[tactic(auto, unfolding(crate::specs::Lines::refusal_line))]
+    #[tactic(auto, unfolding(listing_defs::specs::Lines::refusal_line))]
     pub fn put_refusal(&mut self, f: Refusal)
         requires { length self.old + length (refusal_line f) ≤ most_text }
         ensures { self.new ≡ self.old ++ refusal_line f }
@@ -24,7 +25,7 @@ impl Text {
     }
 
     // PL mode rounds converged capacity stiffening filler promoted upsized overloaded capped
-    #[tactic(auto, unfolding(crate::specs::Lines::plan_line))]
+    #[tactic(auto, unfolding(listing_defs::specs::Lines::plan_line))]
     pub fn put_plan(&mut self, mode: PlanMode, p: CorridorPlan)
         requires { length self.old + length (plan_line mode p) ≤ most_text }
         ensures { self.new ≡ self.old ++ plan_line mode p }
@@ -47,7 +48,7 @@ impl Text {
     }
 
     // AD kV, for each level added.
-    #[tactic(auto, using(crate::proofs::Texts::one_more), unfolding(crate::specs::Lines::added_line))]
+    #[tactic(auto, using(crate::proofs::Texts::one_more), unfolding(listing_defs::specs::Lines::added_line))]
     pub fn put_levels(&mut self, added: &[f64])
         requires { length self.old + length (added_lines added.now) ≤ most_text }
         ensures { self.new ≡ self.old ++ added_lines added.now }
@@ -58,7 +59,7 @@ impl Text {
     }
 
     // GR bus, for each ground.
-    #[tactic(auto, using(crate::proofs::Texts::one_more), unfolding(crate::specs::Lines::ground_line))]
+    #[tactic(auto, using(crate::proofs::Texts::one_more), unfolding(listing_defs::specs::Lines::ground_line))]
     pub fn put_grounds(&mut self, ground: &[u32])
         requires { length self.old + length (ground_lines ground.now) ≤ most_text }
         ensures { self.new ≡ self.old ++ ground_lines ground.now }
@@ -69,7 +70,7 @@ impl Text {
     }
 
     // BU index tier angle, for each bus.
-    #[tactic(auto, using(crate::proofs::Texts::one_more), unfolding(crate::specs::Lines::bus_line))]
+    #[tactic(auto, using(crate::proofs::Texts::one_more), unfolding(listing_defs::specs::Lines::bus_line))]
     pub fn put_buses(&mut self, tier: &[u32], angle: &[f64])
         requires room { length self.old + length (bus_lines tier.now angle.now) ≤ most_text }
         requires tier_len { length tier.now ≡ length angle.now }
@@ -88,7 +89,7 @@ impl Text {
     }
 
     // GE index MW, for each generator.
-    #[tactic(auto, using(crate::proofs::Texts::one_more), unfolding(crate::specs::Lines::generator_line))]
+    #[tactic(auto, using(crate::proofs::Texts::one_more), unfolding(listing_defs::specs::Lines::generator_line))]
     pub fn put_generators(&mut self, mw: &[f64])
         requires { length self.old + length (generator_lines mw.now) ≤ most_text }
         ensures { self.new ≡ self.old ++ generator_lines mw.now }
@@ -99,7 +100,7 @@ impl Text {
     }
 
     // CO index circuits flow rate, for each corridor.
-    #[tactic(auto, using(crate::proofs::Texts::one_more), unfolding(crate::specs::Lines::corridor_line))]
+    #[tactic(auto, using(crate::proofs::Texts::one_more), unfolding(listing_defs::specs::Lines::corridor_line))]
     pub fn put_corridors(&mut self, circuits: &[u32], flow: &[f64], rate: &[f64])
         requires room { length self.old + length (corridor_lines circuits.now flow.now rate.now) ≤ most_text }
         requires flow_len { length flow.now ≡ length circuits.now }
@@ -121,7 +122,7 @@ impl Text {
     }
 
     // MX loading spread
-    #[tactic(auto, unfolding(crate::specs::Lines::most_line))]
+    #[tactic(auto, unfolding(listing_defs::specs::Lines::most_line))]
     pub fn put_most(&mut self, loading: f64, spread: f64)
         requires { length self.old + length (most_line loading spread) ≤ most_text }
         ensures { self.new ≡ self.old ++ most_line loading spread }

@@ -1,10 +1,11 @@
 // The text of the listing, in fixed memory. Each method puts something behind what there is.
 ghost use Rattle.std.specs.Prelude.{◌≡◌, ◌+◌, ◌≤◌, [], ◌++◌, length};
-ghost use Rattle.listing.specs.Text.{hexadecimal, number, figure, field};
-ghost use Rattle.listing.specs.Lines.{line_of, most_text};
+ghost use Rattle.listing_defs.specs.Text.{hexadecimal, number, figure, field};
+ghost use Rattle.listing_defs.specs.Lines.{line_of, most_text};
 
 use arrayvec::ArrayVec;
 use itoa::Buffer;
+use listing_defs::Field;
 use plan_defs::listed_bits;
 use std::marker::Model;
 
@@ -19,13 +20,6 @@ const MOST_TEXT: usize = PLAN_ROOM + LINE_ROOM * MOST_LINES;
 
 // The hexadecimal digits of a figure.
 const FIGURE_DIGITS: usize = 16;
-
-// A field of a line: one of two kinds, each with digits of its own, and never none.
-#[derive(Clone, Copy)]
-pub enum Field {
-    Number(u64),
-    Figure(f64),
-}
 
 #[derive(Drop)]
 pub struct Text {

@@ -16,8 +16,8 @@ use Rattle.loops.proofs.Scan.{all_pass}
 use Rattle.loops.proofs.Tab.{tab_same, get_tab, length_tab, tab_replicate}
 use Rattle.casefile_defs.specs.Bounds.{row_figures}
 use Rattle.small.specs.declared.order.Shape.{Shape}
-use Rattle.small.specs.Networks.{bits, numbered, all_places, buses_at, number_at, network_at}
-use Rattle.small.specs.Tables.{chosen, corridors_of, load_of, sheet_row, padded}
+use Rattle.small_defs.specs.Networks.{bits, numbered, all_places, buses_at, number_at, network_at}
+use Rattle.small_defs.specs.Tables.{chosen, corridors_of, load_of, sheet_row, padded}
 use Rattle.small.specs.Columns.{row_figure, shape_at, corridor_count, pair_of, lower_end, upper_end, load_at}
 
 -- ---- a table of k places whose first n are filled

@@ -3,7 +3,7 @@ use Prim.Native.Nat.{ℕ, ◌-◌, ◌≤◌, ◌<◌}
 use mathlib.Core.Path.{◌≡◌}
 use native.Mathlib.Omega.{arith}
 use borrow.Author.Tests.{lt-ltb, le-ltb}
-use Rattle.small.specs.Networks.{first_of_two, first_of_three, buses_at, number_at}
+use Rattle.small_defs.specs.Networks.{first_of_two, first_of_three, buses_at, number_at}
 use Rattle.small.specs.Columns.{shape, shape_at}
 
 pub shape_one : (i : ℕ) → i < first_of_two → shape 1 i 2 ≡ shape_at i

@@ -9,8 +9,8 @@ use Rattle.refusal.specs.declared.Refusal.TheVariants.{Length, Place}
 use Rattle.casefile_defs.specs.Tables.{Places, places_of, sizes_ok}
 use Rattle.casefile_defs.specs.declared.Header.{Header}
 use Rattle.small.specs.declared.order.Shape.{Shape}
-use Rattle.small.specs.Networks.{all_places, network_at}
-use Rattle.small.specs.Tables.{header_of, header_at, tables_at, made, tests_of, small_network}
+use Rattle.small_defs.specs.Networks.{all_places, network_at}
+use Rattle.small_defs.specs.Tables.{header_of, header_at, tables_at, made, tests_of, small_network}
 use Rattle.small.specs.Columns.{shape_at, corridor_count, counted, header_for}
 use Rattle.small.proofs.Filled.{buses, corridors_counted}
 use Rattle.std.specs.Prelude.{Err, Ok}

@@ -4,8 +4,8 @@ use Rattle.loops.specs.Figures.{nought, half, hundred}
 use Rattle.mode.specs.declared.PlanMode.TheVariants.{Observe}
 use Rattle.casefile_defs.specs.declared.Header.{Header}
 use Rattle.small.specs.declared.order.Shape.{Shape}
-use Rattle.small.specs.Networks.{buses_at, number_at}
-use Rattle.small.specs.Tables.{load_of}
+use Rattle.small_defs.specs.Networks.{buses_at, number_at}
+use Rattle.small_defs.specs.Tables.{load_of}
 
 -- figure j of a row of the sheet
 abbrev pub row_figure : ℕ → Float

@@ -1,4 +1,2 @@
--- The small networks in their order, and the tables of each.
-pub mod Networks
-pub mod Tables
+-- The records of a small network as the code works them out.
 pub mod Columns

@@ -3,7 +3,7 @@
 
 ghost use Rattle.std.specs.Prelude.{◌≡◌};
 ghost use Rattle.casefile_defs.specs.Tables.{places_of};
-ghost use Rattle.small.specs.Tables.{made, small_network};
+ghost use Rattle.small_defs.specs.Tables.{made, small_network};
 
 use casefile_defs::{Header, ROW_FIGURES, tables_sized};
 use loops::fill_first;

@@ -15,8 +15,8 @@ use Rattle.refusal.specs.declared.Refusal.{Refusal}
 use Rattle.casefile_defs.specs.Reading.{counts_ok}
 use Rattle.plan_defs.specs.Case.{rows_of, row_at}
 use Rattle.plan_defs.specs.Accept.{lengths_ok, counts_ok as case_counts_ok, level_ok, bus_ok, generator_ok, corridor_sound, row_ok, tables_fault, case_fault}
-use Rattle.small.specs.Networks.{bits, numbered, all_places, buses_at, number_at, network_at}
-use Rattle.small.specs.Tables.{chosen, header_of, columns_of, header_at}
+use Rattle.small_defs.specs.Networks.{bits, numbered, all_places, buses_at, number_at, network_at}
+use Rattle.small_defs.specs.Tables.{chosen, header_of, columns_of, header_at}
 use Rattle.small_theorems.specs.Inverse.{binary, first_place, place_for}
 use Rattle.case_defs.specs.Cases.{case_as}
 use Rattle.small_theorems.specs.Held.{joins, network_with}

@@ -9,7 +9,7 @@ use native.Mathlib.Omega.{arith}
 use borrow.Author.Tests.{eq-eqb, ne_eqb}
 use lib.Dec.{eqb, lit<}
 use lib.ListN.{length}
-use Rattle.small.specs.Networks.{bits}
+use Rattle.small_defs.specs.Networks.{bits}
 use Rattle.small_theorems.specs.Inverse.{binary}
 
 pub length_bits : (k n : ℕ) → length (bits k n) ≡ k

@@ -4,5 +4,4 @@ pub mod Places
 pub mod Accepted
 pub mod Tables
 pub mod Theorems
-pub mod Examples
 pub mod OneLevel

@@ -10,8 +10,8 @@ use Rattle.loops.proofs.Tab.{tab_same, tab_of, length_tab}
 use Rattle.sheets.specs.Sheet.{row_figures, line_of, by_level}
 use Rattle.sheets.proofs.Layouts.{line_at_lem}
 use Rattle.casefile_defs.specs.Reading.{levels}
-use Rattle.small.specs.Networks.{Network}
-use Rattle.small.specs.Tables.{corridors_of, header_of, columns_of}
+use Rattle.small_defs.specs.Networks.{Network}
+use Rattle.small_defs.specs.Tables.{corridors_of, header_of, columns_of}
 
 line_same : (m i : ℕ) → i < m → line_of m 1 i ≡ i
 line_same m i h = ap (line_of m 1) (let z : i ≡ 0 * m + i = omega arith in z) ∙ line_at_lem m 1 i 0 h ∙ (let z : i * 1 + 0 ≡ i = omega arith in z)

@@ -7,7 +7,7 @@ use native.Mathlib.Decide.{dec_lt}
 use native.Mathlib.Omega.{arith}
 use borrow.Author.Tests.{lt-ltb, le-ltb}
 use lib.ListN.{length}
-use Rattle.small.specs.Networks.{Network, bits, pairs_of, numbered, first_of_two, first_of_three, all_places, buses_at, number_at, network_at}
+use Rattle.small_defs.specs.Networks.{Network, bits, pairs_of, numbered, first_of_two, first_of_three, all_places, buses_at, number_at, network_at}
 use Rattle.small_theorems.specs.Inverse.{Known, binary, first_place, place_for}
 use Rattle.small_theorems.proofs.Bits.{length_bits, bits_back, binary_small, binary_bits}
 

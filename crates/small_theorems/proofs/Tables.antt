@@ -20,7 +20,7 @@ use Rattle.casefile_defs.specs.Layout.{Field, width_of, allowed}
 use Rattle.casefile_defs.specs.Tables.{basis_of, basis_field}
 use Rattle.casefile_theorems.specs.Writer.{basis_at, row_cell}
 use Rattle.casefile_theorems.specs.Cases.{Numbers, Figures, Sheet}
-use Rattle.small.specs.Tables.{load_of, sheet_row, padded}
+use Rattle.small_defs.specs.Tables.{load_of, sheet_row, padded}
 use Rattle.small_theorems.proofs.Accepted.{low}
 
 -- ---- a padded column

@@ -19,8 +19,8 @@ use Rattle.casefile_theorems.specs.Cases.{Sheet, CaseTables}
 use Rattle.casefile_theorems.proofs.Theorems.{case_back, caps_legal}
 use Rattle.plan_defs.specs.Accept.{case_fault}
 use Rattle.plan_defs.proofs.Accepted.{Accepted, accepted}
-use Rattle.small.specs.Networks.{all_places, network_at}
-use Rattle.small.specs.Tables.{header_of, columns_of, laid_out, header_at, tables_at}
+use Rattle.small_defs.specs.Networks.{all_places, network_at}
+use Rattle.small_defs.specs.Tables.{header_of, columns_of, laid_out, header_at, tables_at}
 use Rattle.small.proofs.Whole.{places_same}
 use Rattle.small_theorems.specs.Inverse.{place_for}
 use Rattle.case_defs.specs.Cases.{case_as, case_in}

@@ -7,8 +7,8 @@ use Rattle.casefile_defs.specs.declared.Header.{Header}
 use Rattle.casefile_theorems.specs.Cases.{fronts}
 use Rattle.casefile_theorems.specs.Writer.{file_of, caps_only}
 use Rattle.loads.specs.Load.{loads_of}
-use Rattle.small.specs.Networks.{Network, pairs, pairs_of}
-use Rattle.small.specs.Tables.{header_at, tables_at}
+use Rattle.small_defs.specs.Networks.{Network, pairs, pairs_of}
+use Rattle.small_defs.specs.Tables.{header_at, tables_at}
 
 -- whether some corridor joins a pair
 unfoldable pub joins : List ℕ → List ℕ → ℕ × ℕ → Bool

@@ -1,6 +1,6 @@
 -- The inverse of the order: from a network, as its buses, its corridors as a set of pairs and its loads, to its place.
 use Rattle.std.specs.Prelude.{ℕ, ◌+◌, ◌*◌, ◌^◌, ◌≤◌, Bool, cond, List, [], ◌∷◌, ◌≡◌, ltb, length}
-use Rattle.small.specs.Networks.{Network, pairs_of, first_of_two, first_of_three}
+use Rattle.small_defs.specs.Networks.{Network, pairs_of, first_of_two, first_of_three}
 
 -- the networks of the request: of 1 to 3 buses, each pair with or without a corridor, each bus with or without a load
 pub record Known (s : Network) : Type 0 where

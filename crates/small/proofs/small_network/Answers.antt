@@ -3,8 +3,8 @@ use Rattle.std.proofs.Common.{ℕ, ◌*◌, ◌%◌, ◌<◌, ◌∙◌, sym, ar
 use Rattle.loops.specs.Figures.{nought, one, hundred}
 use Rattle.casefile_defs.specs.Bounds.{row_figures}
 use Rattle.casefile_defs.proofs.Whole.{sizes}
-use Rattle.small.specs.Networks.{all_places}
-use Rattle.small.specs.Tables.{kv, ten, twenty, quarter, columns_of, laid_out}
+use Rattle.small_defs.specs.Networks.{all_places}
+use Rattle.small_defs.specs.Tables.{kv, ten, twenty, quarter, columns_of, laid_out}
 use Rattle.small.specs.Columns.{pair_of, lower_end, upper_end, load_at, row_figure}
 use Rattle.small.proofs.Filled.{column, cleared, single, each_bus, loads, lower, upper, each, rows}
 use Rattle.small.proofs.Whole.{places_same, made_whole, lengths_refused, place_refused}

@@ -2,7 +2,7 @@ use Rattle.std.proofs.Common.{◌+◌, ◌≤◌, ◌++◌, List, ℕ, length, l
 use Rattle.std.proofs.lemmas.Iterator.{YieldsList-from_slice, YieldsList-from_zip}
 use Rattle.std.proofs.lemmas.Iterator.Consumers.{YieldsList-from_enumerate, YieldsList-turn}
 use Rattle.loops.specs.Figures.{at}
-use Rattle.listing.specs.Lines.{lines, corridor_line, most_text}
+use Rattle.listing_defs.specs.Lines.{lines, corridor_line, most_text}
 use Rattle.listing.proofs.Texts.{none_put, line_room, one_more}
 use Rattle.listing.proofs.Turns.{corridor_turn}
 use Rattle.listing.proofs.text.Text.put_corridors.Goals as goal

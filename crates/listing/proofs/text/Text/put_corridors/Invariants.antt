@@ -1,6 +1,6 @@
 use Rattle.std.proofs.Common.{◌≡◌, ◌++◌, get_or, length}
 use Rattle.loops.specs.Figures.{at}
-use Rattle.listing.specs.Lines.{lines, corridor_line}
+use Rattle.listing_defs.specs.Lines.{lines, corridor_line}
 use Rattle.listing.proofs.text.Text.put_corridors.Given as goal
 
 abbrev pub invariant-loop-i : goal.invariant-loop-i

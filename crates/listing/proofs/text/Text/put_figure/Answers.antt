@@ -1,5 +1,5 @@
 use Rattle.std.proofs.Common.{List, ℕ, [], ◌∷◌, ap, ◌∙◌}
-use Rattle.listing.specs.Text.{hexadecimal, figure}
+use Rattle.listing_defs.specs.Text.{hexadecimal, figure}
 use Rattle.listing.proofs.Texts.{both_put, first_room, second_room}
 use Rattle.listing.proofs.text.Text.put_figure.Goals as goal
 

@@ -1,6 +1,6 @@
 use Rattle.std.proofs.Common.{◌≡◌, ◌++◌}
 use Rattle.loops.specs.Figures.{at}
-use Rattle.listing.specs.Lines.{lines, generator_line}
+use Rattle.listing_defs.specs.Lines.{lines, generator_line}
 use Rattle.listing.proofs.text.Text.put_generators.Given as goal
 
 abbrev pub invariant-loop-i : goal.invariant-loop-i

@@ -1,5 +1,5 @@
 use Rattle.std.proofs.Common.{length, get_or}
-use Rattle.listing.specs.Lines.{ground_line}
+use Rattle.listing_defs.specs.Lines.{ground_line}
 use Rattle.listing.proofs.Texts.{none_put, line_room}
 use Rattle.listing.proofs.text.Text.put_grounds.Goals as goal
 

@@ -1,5 +1,5 @@
 use Rattle.std.proofs.Common.{◌≡◌, ◌++◌, get_or}
-use Rattle.listing.specs.Lines.{lines, ground_line}
+use Rattle.listing_defs.specs.Lines.{lines, ground_line}
 use Rattle.listing.proofs.text.Text.put_grounds.Given as goal
 
 abbrev pub invariant-loop-bus : goal.invariant-loop-bus

@@ -1,6 +1,6 @@
 use Rattle.std.proofs.Common.{length}
 use Rattle.loops.specs.Figures.{at}
-use Rattle.listing.specs.Lines.{added_line}
+use Rattle.listing_defs.specs.Lines.{added_line}
 use Rattle.listing.proofs.Texts.{none_put, line_room}
 use Rattle.listing.proofs.text.Text.put_levels.Goals as goal
 

@@ -1,6 +1,6 @@
 use Rattle.std.proofs.Common.{◌≡◌, ◌++◌}
 use Rattle.loops.specs.Figures.{at}
-use Rattle.listing.specs.Lines.{lines, added_line}
+use Rattle.listing_defs.specs.Lines.{lines, added_line}
 use Rattle.listing.proofs.text.Text.put_levels.Given as goal
 
 abbrev pub invariant-loop-kv : goal.invariant-loop-kv

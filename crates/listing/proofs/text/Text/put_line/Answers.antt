@@ -1,7 +1,7 @@
 use Rattle.std.proofs.Common.{◌+◌, ◌≤◌, ◌++◌, List, ℕ, length, length-append, ◌∙◌}
 use native.Mathlib.Omega.{arith}
-use Rattle.listing.specs.Lines.{line_of, most_text}
-use Rattle.listing.specs.declared.text.Field.{Field}
+use Rattle.listing_defs.specs.Lines.{line_of, most_text}
+use Rattle.listing_defs.specs.declared.Field.{Field}
 use Rattle.listing.proofs.Texts.{field_room, field_put, fields_put}
 use Rattle.listing.proofs.text.Text.put_line.Goals as goal
 

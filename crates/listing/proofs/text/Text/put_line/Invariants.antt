@@ -1,6 +1,6 @@
 use Rattle.std.proofs.Common.{◌≡◌, ◌++◌, map, drop}
-use Rattle.listing.specs.Text.{field}
-use Rattle.listing.specs.Lines.{ended, line_of}
+use Rattle.listing_defs.specs.Text.{field}
+use Rattle.listing_defs.specs.Lines.{ended, line_of}
 use Rattle.listing.proofs.text.Text.put_line.Given as goal
 
 -- what is left to put completes the line

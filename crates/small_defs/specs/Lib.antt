@@ -1,0 +1,3 @@
+-- The small networks in their order, and the tables of each.
+pub mod Networks
+pub mod Tables

@@ -1,100 +1,51 @@
 -- The refusals in order: 1 for the joined tables and 1 to 7 of the first case, 1 to 7 of the second, 2, 24; and what passes them all.
 use Prim.Native.Nat.{ℕ, ◌*◌}
-use mathlib.Core.Bool.{Bool, true, false, cond, ◌&&◌, and_assoc}
-use mathlib.Core.List.{List}
-use mathlib.Core.Option.{Option, none, some}
-use mathlib.Core.Path.{◌≡◌, refl, sym, ap, ◌∙◌}
+use mathlib.Core.Bool.{Bool, true, ◌&&◌, and_assoc}
+use mathlib.Core.List.{List, [], ◌∷◌, ◌++◌}
+use mathlib.Core.Path.{◌≡◌, sym, ap, ◌∙◌}
 use native.Mathlib.Omega.{arith}
 use borrow.Author.Tests.{leb-true}
 use lib.ListN.{length}
-use Rattle.loops.proofs.Bools.{both, unequal}
+use Rattle.loops.specs.Verdict.{holds, verdict}
+use Rattle.loops.proofs.Bools.{both}
+use Rattle.loops.proofs.Chains.{only, err_not_ok}
+use Rattle.loops.proofs.Verdicts.{or_else, joined}
 use Rattle.refusal.specs.declared.Refusal.{Refusal}
-use Rattle.refusal.specs.declared.Refusal.TheVariants.{Length, Count, Districts}
+use Rattle.refusal.specs.declared.Refusal.TheVariants.{Count, Districts}
 use Rattle.sheets.specs.Sheet.{row_figures}
 use Rattle.casefile_defs.specs.Tables.{Places}
 use Rattle.casefile_defs.specs.declared.Header.{Header}
 use Rattle.plan_defs.specs.Case.{Case, levels}
-use Rattle.plan_defs.specs.Accept.{case_fault}
+use Rattle.plan_defs.specs.Accept.{case_tests}
 use Rattle.plan_defs.proofs.Accepted.{Accepted, accepted, bus_below, end_a_lem, end_b_lem}
-use Rattle.acceptance.specs.Check.{answer_of}
+use Rattle.acceptance.specs.Check.{call_tests}
 use Rattle.acceptance.specs.Check as one_case
-use Rattle.acceptance.proofs.Callers.{fault_is, none_is, tables_of_lem, refused_by_lem, passed_by_lem}
-use Rattle.join_defs.specs.Districts.{same_ladder, sums_ok, alike, or_else, join_fault}
+use Rattle.join_defs.specs.Districts.{same_ladder, sums_ok, alike, join_tests}
 use Rattle.case_defs.specs.Cases.{case_as}
-use Rattle.join_defs.proofs.Faults.{joinable as parted}
+use Rattle.join_defs.proofs.Faults.{Joinable, joinable as parted}
 use Rattle.join_defs.proofs.Levels.{levels_same}
-use Rattle.join.specs.Joins.{Raises, Rowed, Summed, heads_alike, check_of}
-use Rattle.std.specs.Prelude.{Err, Ok, Result}
+use Rattle.join.specs.Joins.{Raises, Rowed, Summed, heads_alike, tests_of, check_of}
+use Rattle.std.specs.Prelude.{Result}
 use Rattle.refusal.specs.Reply.{no_refusal}
 
--- ---- what the answer to one case says
-pub answered : (fits : Bool) (c : Case) (t : ℕ) (a : Result (Unit {0}) Refusal) → a ≡ one_case.check_of fits (tables_of_lem c) t → a ≡ answer_of (cond fits (case_fault c t) (some Length))
-answered fits c t (Err f) e = ap answer_of (sym (refused_by_lem fits c t f e))
-answered fits c t (Ok u) e = let p = passed_by_lem fits c t e in rw (p.0, p.1) refl
-
 module _ (fits : Bool) (c : Case) (t : ℕ) (d : Case) (u : ℕ) where
-  -- what is left after 1 to 7 of both, and of the first
-  abbrev after_both : Option Refusal
-  after_both = cond (sums_ok c t d u) (cond (alike c d) none (some Districts)) (some Count)
-
-  abbrev after_first : Option Refusal
-  after_first = or_else (case_fault d u) after_both
-
-  pub first_refused : (f : Refusal) → cond fits (case_fault c t) (some Length) ≡ some f → Err f ≡ check_of fits c t d u
-  unfolding check_of join_fault
-  first_refused f e = go fits (case_fault c t) e
-    where
-      go : (b : Bool) (o : Option Refusal) → cond b o (some Length) ≡ some f → Err f ≡ answer_of (cond b (or_else o after_first) (some Length))
-      go false o q = ap answer_of (sym q)
-      go true none q = absurd (unequal cc)
-      go true (some g) q = ap answer_of (sym q)
-
-  module _ (passed : (fits ≡ true) × (case_fault c t ≡ none)) where
-    past_first : (a : Result (Unit {0}) Refusal) → a ≡ answer_of after_first → a ≡ check_of fits c t d u
-    unfolding check_of join_fault
-    past_first a e =
-        e ∙ ap (λ (o : Option Refusal). answer_of (or_else o after_first)) (sym passed.1)
-        ∙ ap (λ (b : Bool). answer_of (cond b (or_else (case_fault c t) after_first) (some Length))) (sym passed.0)
-
-    pub second_refused : (f : Refusal) → case_fault d u ≡ some f → Err f ≡ check_of fits c t d u
-    second_refused f e = past_first (Err f) (ap (λ (o : Option Refusal). answer_of (or_else o after_both)) (sym e))
-
-    module _ (other : case_fault d u ≡ none) where
-      by_tests : (s l : Bool) → sums_ok c t d u ≡ s → alike c d ≡ l → answer_of (cond s (cond l none (some Districts)) (some Count)) ≡ check_of fits c t d u
-      by_tests s l es el =
-          past_first _
-          (ap (λ (b : Bool). answer_of (cond s (cond b none (some Districts)) (some Count))) (sym el)
-          ∙ ap (λ (b : Bool). answer_of (cond b (cond (alike c d) none (some Districts)) (some Count))) (sym es)
-          ∙ ap (λ (o : Option Refusal). answer_of (or_else o after_both)) (sym other))
-
-      pub sums_refused : sums_ok c t d u ≡ false → Err Count ≡ check_of fits c t d u
-      sums_refused e = by_tests false (alike c d) e refl
-
-      pub unlike_refused : sums_ok c t d u ≡ true → alike c d ≡ false → Err Districts ≡ check_of fits c t d u
-      unlike_refused e l = by_tests true false e l
-
-      pub both_passed : sums_ok c t d u ≡ true → alike c d ≡ true → no_refusal ≡ check_of fits c t d u
-      both_passed e l = by_tests true true e l
+  -- by what is said of each case, and the two last tests
+  pub answered : (x y : Result (Unit {0}) Refusal) (s l : Bool) → x ≡ one_case.check_of fits c t → y ≡ one_case.check_of true d u → s ≡ sums_ok c t d u → l ≡ alike c d
+      → or_else x (or_else y (verdict (holds s Count ∷ holds l Districts ∷ []))) ≡ check_of fits c t d u
+  unfolding tests_of call_tests join_tests
+  answered x y s l e f g h =
+      let last = holds (sums_ok c t d u) Count ∷ holds (alike c d) Districts ∷ [] in
+      rw (e, f, g, h, joined (call_tests fits c t) (case_tests d u ++ last), joined (case_tests d u) last)
 
   -- ---- what is known by the answer
-  pub refused_is : (f : Refusal) → Err f ≡ check_of fits c t d u → cond fits (join_fault c t d u) (some Length) ≡ some f
-  unfolding check_of
-  refused_is f e = fault_is (cond fits (join_fault c t d u) (some Length)) f e
-
   pub record CallJoinable : Type 0 where
+    pub free : no_refusal ≡ check_of fits c t d u
     pub sized : fits ≡ true
-    pub free : join_fault c t d u ≡ none
-    pub first : case_fault c t ≡ none
-    pub second : case_fault d u ≡ none
-    pub sums : sums_ok c t d u ≡ true
-    pub same : alike c d ≡ true
+    pub joins : Joinable c d t u
 
   pub joinable : no_refusal ≡ check_of fits c t d u → CallJoinable
-  unfolding check_of
-  joinable e =
-      let p = none_is fits (join_fault c t d u) e in
-      let j = parted c d t u p.1 in
-      record { sized = p.0; free = p.1; first = j.first; second = j.second; sums = j.sums; same = j.same }
+  unfolding tests_of
+  joinable e = let p = only fits (sym e) err_not_ok in record { free = e; sized = p.0; joins = parted c d t u p.1 }
 
 -- ---- of two headers and their tables
 pub record Raised (by : ℕ) (x y z : List ℕ) : Type 0 where
@@ -107,16 +58,16 @@ module _ (fits : Bool) (h : Header) (p : Places) (k : Header) (q : Places)
   pub summed : Summed h k
   unfolding sums_ok
   summed =
-      let s₁ = both _ _ j.sums in
+      let s₁ = both _ _ j.joins.sums in
       let s₂ = both _ _ s₁.1 in
       let s₃ = both _ _ s₂.1 in
       record { buses = leb-true _ _ s₁.0; corridors = leb-true _ _ s₂.0; generators = leb-true _ _ s₃.0; target = leb-true _ _ s₃.1 }
 
   first_ok : Accepted (case_as h p) h.target
-  first_ok = accepted (case_as h p) h.target j.first
+  first_ok = accepted (case_as h p) h.target j.joins.first
 
   second_ok : Accepted (case_as k q) k.target
-  second_ok = accepted (case_as k q) k.target j.second
+  second_ok = accepted (case_as k q) k.target j.joins.second
 
   -- the second's buses, raised by the first's, fit
   pub raised : (n : ℕ) → n ≡ h.buses → Raised n q.bus q.a q.b
@@ -128,7 +79,7 @@ module _ (fits : Bool) (h : Header) (p : Places) (k : Header) (q : Places)
       }
 
   pub same_levels : levels (case_as h p) ≡ levels (case_as k q)
-  same_levels = levels_same (case_as h p) (case_as k q) j.same h.target k.target first_ok second_ok
+  same_levels = levels_same (case_as h p) (case_as k q) j.joins.same h.target k.target first_ok second_ok
 
   -- the two sheets have the rows of one count of levels
   pub rowed : Rowed h.corridors k.corridors (levels (case_as h p)) (length p.sheet) (length q.sheet)

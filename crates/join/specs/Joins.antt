@@ -1,6 +1,6 @@
 -- What the contracts of join's functions cite: the tests that read two headers, the joined header, and the refusals in order.
-use Rattle.std.specs.Prelude.{ℕ, ◌+◌, ◌-◌, ◌*◌, ◌^◌, ◌<◌, ◌≤◌, Bool, cond, ◌&&◌, List, ◌≡◌, leb, ltb, eqb, length, get_or, Result}
-use Rattle.std.proofs.Math.Option.{some}
+use Rattle.std.specs.Prelude.{ℕ, ◌+◌, ◌-◌, ◌*◌, ◌^◌, ◌<◌, ◌≤◌, Bool, cond, ◌&&◌, List, ◌∷◌, ◌≡◌, leb, ltb, eqb, length, get_or, Result}
+use Rattle.loops.specs.Verdict.{Test, holds, verdict}
 use Rattle.refusal.specs.declared.Refusal.TheVariants.{Length}
 use Rattle.mode.specs.Number.{mode_number}
 use Rattle.sheets.specs.Sheet.{row_figures}
@@ -8,8 +8,7 @@ use Rattle.casefile_defs.specs.Bounds.{most_levels, most_buses, most_corridors, 
 use Rattle.casefile_defs.specs.Tables.{Places, places_of}
 use Rattle.casefile_defs.specs.declared.Header.{Header}
 use Rattle.plan_defs.specs.Case.{Case}
-use Rattle.acceptance.specs.Check.{answer_of}
-use Rattle.join_defs.specs.Districts.{join_fault}
+use Rattle.join_defs.specs.Districts.{join_tests}
 use Rattle.case_defs.specs.Cases.{case_as}
 use Rattle.join.specs.declared.district.District.{District}
 use Rattle.refusal.specs.declared.Refusal.{Refusal}
@@ -65,6 +64,9 @@ headers_of h k = record {
   requested = h.requested;
 }
 
--- the refusals; `fits`: the joined tables have their sizes
-unfoldable pub check_of : Bool → Case → ℕ → Case → ℕ → Result (Unit {0}) Refusal
-check_of fits c t d u = answer_of (cond fits (join_fault c t d u) (some Length))
+-- the refusals in order; `fits`: the joined tables have their sizes
+unfoldable pub tests_of : Bool → Case → ℕ → Case → ℕ → List (Test Refusal)
+tests_of fits c t d u = holds fits Length ∷ join_tests c t d u
+
+abbrev pub check_of : Bool → Case → ℕ → Case → ℕ → Result (Unit {0}) Refusal
+check_of fits c t d u = verdict (tests_of fits c t d u)

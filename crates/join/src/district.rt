@@ -1,9 +1,6 @@
 // A district as it is lent, and 1 to 7 of it.
-ghost use Rattle.std.specs.Prelude.{◌≡◌, cond};
-ghost use Rattle.std.proofs.Math.Option.{some};
-ghost use Rattle.plan_defs.specs.Accept.{case_fault};
-ghost use Rattle.acceptance.specs.Check.{answer_of};
-ghost use Rattle.refusal.specs.declared.Refusal.TheVariants.{Length};
+ghost use Rattle.std.specs.Prelude.{◌≡◌};
+ghost use Rattle.acceptance.specs.Check.{check_of};
 ghost use Rattle.join.specs.Joins.{case_of};
 
 use acceptance::check_case;
@@ -34,7 +31,7 @@ pub struct District<'a> {
 }
 
 pub fn check_district(fits: bool, district: &District) -> Result<(), Refusal>
-    ensures { result ≡ answer_of (cond fits (case_fault (case_of district.now) district.now.header.target) (some Length)) }
+    ensures { result ≡ check_of fits (case_of district.now) district.now.header.target }
 {
     let h = district.header;
     check_case(

@@ -1,28 +1,33 @@
--- What it says of two cases that joining them has no fault.
+-- What it says of two cases that they may be joined.
 use Prim.Native.Nat.{ℕ}
 use mathlib.Core.Bool.{true}
-use mathlib.Core.Option.{Option, none, some}
-use mathlib.Core.Path.{◌≡◌, refl}
-use Rattle.loops.proofs.Chains.{only, some_not_none}
+use mathlib.Core.List.{[], ◌∷◌}
+use mathlib.Core.Path.{◌≡◌, refl, sym, ◌∙◌}
+use Rattle.std.specs.Prelude.{Err, Ok, Result}
+use Rattle.loops.specs.Verdict.{holds}
+use Rattle.loops.proofs.Chains.{err_not_ok}
+use Rattle.loops.proofs.Verdicts.{or_else, joined, passes_all}
+use Rattle.refusal.specs.Reply.{no_refusal}
 use Rattle.refusal.specs.declared.Refusal.{Refusal}
+use Rattle.refusal.specs.declared.Refusal.TheVariants.{Count, Districts}
 use Rattle.plan_defs.specs.Case.{Case}
-use Rattle.plan_defs.specs.Accept.{case_fault}
-use Rattle.join_defs.specs.Districts.{sums_ok, alike, or_else, join_fault}
+use Rattle.plan_defs.specs.Accept.{case_tests, case_check}
+use Rattle.join_defs.specs.Districts.{sums_ok, alike, join_tests, join_check}
 
-neither : (o next : Option Refusal) → or_else o next ≡ none → (o ≡ none) × (next ≡ none)
-neither none next e = (refl, e)
-neither (some f) next e = absurd (some_not_none e)
+neither : (r next : Result (Unit {0}) Refusal) → or_else r next ≡ no_refusal → (r ≡ no_refusal) × (next ≡ no_refusal)
+neither (Ok tt) next e = (refl, e)
+neither (Err f) next e = absurd (err_not_ok e)
 
 pub record Joinable (c d : Case) (t u : ℕ) : Type 0 where
-  pub first : case_fault c t ≡ none
-  pub second : case_fault d u ≡ none
+  pub first : case_check c t ≡ no_refusal
+  pub second : case_check d u ≡ no_refusal
   pub sums : sums_ok c t d u ≡ true
   pub same : alike c d ≡ true
 
-pub joinable : (c d : Case) (t u : ℕ) → join_fault c t d u ≡ none → Joinable c d t u
-unfolding join_fault
+pub joinable : (c d : Case) (t u : ℕ) → join_check c t d u ≡ no_refusal → Joinable c d t u
+unfolding join_tests
 joinable c d t u h =
-    let p = neither (case_fault c t) _ h in
-    let q = neither (case_fault d u) _ p.1 in
-    let a = only (sums_ok c t d u) q.1 some_not_none in
-    record { first = p.0; second = q.0; sums = a.0; same = (only (alike c d) a.1 some_not_none).0 }
+    let p = neither (case_check c t) _ (sym (joined (case_tests c t) _) ∙ h) in
+    let q = neither (case_check d u) _ (sym (joined (case_tests d u) _) ∙ p.1) in
+    let a = passes_all (holds (sums_ok c t d u) Count ∷ holds (alike c d) Districts ∷ []) q.1 in
+    record { first = p.0; second = q.0; sums = a.0; same = a.1.0 }

@@ -1,15 +1,15 @@
 -- The case of two survey districts (document 02, K10): buses, generators and corridors of the second follow the first's, renumbered; targets add.
-use Rattle.std.specs.Prelude.{ℕ, ◌+◌, ◌-◌, Bool, cond, ◌&&◌, List, ◌++◌, map, leb, ltb, eqb, length, Float}
-use Rattle.std.proofs.Math.Option.{Option, none, some}
+use Rattle.std.specs.Prelude.{ℕ, ◌+◌, ◌-◌, Bool, cond, ◌&&◌, List, [], ◌∷◌, ◌++◌, map, leb, ltb, eqb, length, Float, Result}
 use Rattle.std.specs.Float.Ieee.{eq}
 use Rattle.loops.specs.Figures.{at}
 use Rattle.loops.specs.Loops.{first}
+use Rattle.loops.specs.Verdict.{Test, holds, verdict}
 use Rattle.refusal.specs.declared.Refusal.{Refusal}
 use Rattle.refusal.specs.declared.Refusal.TheVariants.{Count, Districts}
 use Rattle.mode.specs.Number.{mode_number}
 use Rattle.plan_defs.specs.Constants.{most_buses, most_corridors, most_generators, most_target}
 use Rattle.plan_defs.specs.Case.{Case, Row, case_with}
-use Rattle.plan_defs.specs.Accept.{case_fault}
+use Rattle.plan_defs.specs.Accept.{case_tests}
 
 -- ---- the joined case
 -- indices of the second's buses, which come after n of the first's
@@ -43,11 +43,9 @@ same_ladder x y = eqb (length x) (length y) && eqb (first (λ i. eq (at x i) (at
 unfoldable pub alike : Case → Case → Bool
 alike c d = eqb (mode_number c.mode) (mode_number d.mode) && (eqb c.requested d.requested && same_ladder c.ladder d.ladder)
 
--- ---- the first refusal: 1 to 7 of the first case, then of the second, each with its own indices; then 2 and 24
-abbrev pub or_else : Option Refusal → Option Refusal → Option Refusal
-or_else (some f) next = some f
-or_else none next = next
+-- ---- in order: 1 to 7 of the first case, then of the second, each with its own indices; then 2 and 24
+unfoldable pub join_tests : Case → ℕ → Case → ℕ → List (Test Refusal)
+join_tests c t d u = case_tests c t ++ (case_tests d u ++ (holds (sums_ok c t d u) Count ∷ holds (alike c d) Districts ∷ []))
 
-unfoldable pub join_fault : Case → ℕ → Case → ℕ → Option Refusal
-join_fault c t d u =
-    or_else (case_fault c t) (or_else (case_fault d u) (cond (sums_ok c t d u) (cond (alike c d) none (some Districts)) (some Count)))
+abbrev pub join_check : Case → ℕ → Case → ℕ → Result (Unit {0}) Refusal
+join_check c t d u = verdict (join_tests c t d u)

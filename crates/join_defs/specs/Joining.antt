@@ -1,7 +1,6 @@
 -- `join_cases`: two cases in tables of exactly their counts, and the joined tables, lent as for case reading. After 1 for the joined tables come the refusals of
--- `join_fault`; a refusal touches nothing, an answer fills every place, zero past the counts.
+-- `join_check`; a refusal touches nothing, an answer fills every place, zero past the counts.
 use Rattle.std.specs.Prelude.{ℕ, ◌+◌, ◌*◌, ◌/◌, ◌%◌, cond, List, [], ◌∷◌, ltb, Float, get_or, Err, Ok, Result}
-use Rattle.std.proofs.Math.Option.{Option, none, some}
 use Rattle.loops.specs.Figures.{at, nought}
 use Rattle.loops.specs.Loops.{tab}
 use Rattle.refusal.specs.Reply.{Reply}
@@ -13,7 +12,7 @@ use Rattle.casefile_defs.specs.Tables.{Places, places_of, sizes_ok, reply_of}
 use Rattle.casefile_defs.specs.declared.Header.{Header}
 use Rattle.plan_defs.specs.Case.{Case, Row, levels}
 use Rattle.case_defs.specs.Cases.{case_as}
-use Rattle.join_defs.specs.Districts.{joined_case, join_fault}
+use Rattle.join_defs.specs.Districts.{joined_case, join_check}
 
 -- a header of a case and a target
 abbrev pub header_of : Case → ℕ → Header
@@ -55,12 +54,12 @@ pub record Outcome : Type 0 where
 abbrev pub outcome : Result Header Refusal → Places → Outcome
 outcome r p = record { reply = reply_of r; places = p }
 
-unfoldable pub joined_by : Option Refusal → Case → ℕ → Places → Outcome
-joined_by (some f) c target out = outcome (Err f) out
-joined_by none c target out = outcome (Ok (header_of c target)) (laid_out c)
+unfoldable pub joined_by : Result (Unit {0}) Refusal → Case → ℕ → Places → Outcome
+joined_by (Err f) c target out = outcome (Err f) out
+joined_by (Ok tt) c target out = outcome (Ok (header_of c target)) (laid_out c)
 
 abbrev pub joined_as : Case → ℕ → Case → ℕ → Places → Outcome
-joined_as c t d u out = joined_by (join_fault c t d u) (joined_case c d) (t + u) out
+joined_as c t d u out = joined_by (join_check c t d u) (joined_case c d) (t + u) out
 
 unfoldable pub join_cases : Header → Places → Header → Places → Places → Outcome
 join_cases h p k q out =

@@ -1,27 +1,24 @@
 -- The joined case of two accepted cases that can be joined is accepted. Each test of a joined row is the test of the row in its own case.
 use Prim.Native.Nat.{ℕ, ◌+◌, ◌-◌, ◌*◌, ◌≤◌, ◌<◌}
-use mathlib.Core.Bool.{Bool, true, false, not, cond, ◌&&◌}
+use mathlib.Core.Bool.{Bool, true, false, not, ◌&&◌}
 use mathlib.Core.List.{List, ◌++◌}
-use mathlib.Core.Option.{Option, none, some}
 use mathlib.Core.Path.{◌≡◌, refl, sym, ap, ◌∙◌}
 use native.Mathlib.Nat.{add-mul}
 use native.Mathlib.Omega.{arith}
-use borrow.Author.Tests.{ltb-true, ltb-false, lt-ltb, le-ltb, le-leb, eq-eqb}
+use borrow.Author.Tests.{ltb-true, ltb-false, lt-ltb, le-leb, eq-eqb}
 use lib.Dec.{ltb, leb, eqb}
 use lib.ListN.{length, get_or, length-append, length-map}
-use Rattle.loops.specs.Loops.{first}
 use Rattle.loops.proofs.Bools.{both, and_of}
-use Rattle.loops.proofs.Scan.{pass_all}
-use Rattle.refusal.specs.declared.Refusal.{Refusal}
-use Rattle.refusal.specs.declared.Refusal.TheVariants.{Length, Count, Level, Bus, Generator, Corridor, Row as SheetRow}
+use Rattle.loops.proofs.Verdicts.{where_all_pass}
+use Rattle.refusal.specs.Reply.{no_refusal}
 use Rattle.sheets.specs.Sheet.{row_figures, line_corridor, line_level}
 use Rattle.sheets.proofs.Layouts.{line_corridor_lem, line_level_lem}
 use Rattle.leaders.specs.Operation.{corridor_ok}
 use Rattle.plan_defs.specs.Constants.{most_buses, most_corridors, most_generators, most_levels}
 use Rattle.plan_defs.specs.Case.{Case, levels, end_a, end_b, row_at}
-use Rattle.plan_defs.specs.Accept.{lengths_ok, counts_ok, level_ok, bus_ok, generator_ok, corridor_sound, row_sound, row_ok, first_fault, tables_fault, case_fault}
+use Rattle.plan_defs.specs.Accept.{lengths_ok, counts_ok, level_ok, bus_ok, generator_ok, corridor_sound, row_sound, row_ok, tables_tests, case_tests, case_check}
 use Rattle.plan_defs.proofs.Accepted.{Accepted, accepted, row_sound_lem, bus_below, end_a_lem, end_b_lem}
-use Rattle.join_defs.specs.Districts.{moved, joined_case, sums_ok, join_fault}
+use Rattle.join_defs.specs.Districts.{moved, joined_case, sums_ok, join_check}
 use Rattle.join_defs.proofs.Faults.{Joinable, joinable}
 use Rattle.join_defs.proofs.Levels.{levels_same}
 use Rattle.join_theorems.proofs.Lists.{eqb_moved}
@@ -56,13 +53,7 @@ module _ (c j : Case) (b o m : ℕ) (w : LiesIn c j b o m) where
       (ap not (ap (λ (i : ℕ). eqb i (end_b j (m + k))) (w.end_a_holds k h) ∙ ap (eqb (b + end_a c k)) (w.end_b_holds k h) ∙ eqb_moved b (end_a c k) (end_b c k)) ∙ q.1))
       (cc (w.circuits k h, w.km k h, w.share k h, w.cap k h, p.1))
 
--- ---- one table after another
-module _ (ok : ℕ → Bool) (fault : ℕ → Refusal) (n : ℕ) (next : Option Refusal) where
-  none_faulty : ((i : ℕ) → i < n → ok i ≡ true) → first_fault ok fault n next ≡ next
-  none_faulty h =
-      ap (λ (i : ℕ). cond (ltb i n) (some (fault i)) next) (pass_all ok n h) ∙ ap (λ (b : Bool). cond b (some (fault n)) next) (le-ltb n n (omega arith))
-
--- what holds of the first n and of the m after them
+-- ---- what holds of the first n and of the m after them
 all_of : (ok : ℕ → Bool) (n m : ℕ) → ((i : ℕ) → i < n → ok (0 + i) ≡ true) → ((i : ℕ) → i < m → ok (n + i) ≡ true) → (i : ℕ) → i < n + m → ok i ≡ true
 all_of ok n m low high i h = go (ltb i n) refl
   where
@@ -167,16 +158,11 @@ module _ (c d : Case) (t u : ℕ) (s : Joinable c d t u) where
       row_at_lem (line_level (levels c) i) (line_level_lem joined.corridors (levels c) i h) (line_corridor (levels c) i) (line_corridor_lem joined.corridors (levels c) i h)
 
   -- ---- the theorem
-  pub all_accepted : case_fault joined (t + u) ≡ none
-  unfolding case_fault tables_fault
+  pub all_accepted : case_check joined (t + u) ≡ no_refusal
+  unfolding case_tests tables_tests
   all_accepted =
-      ap (λ (b : Bool). cond b (cond (counts_ok joined (t + u)) (tables_fault joined) (some Count)) (some Length)) lengths
-      ∙ ap (λ (b : Bool). cond b (tables_fault joined) (some Count)) counts
-      ∙ none_faulty (level_ok joined) Level (levels joined) _ level_ok_lem
-      ∙ none_faulty (bus_ok joined) Bus joined.buses _ bus_ok_lem
-      ∙ none_faulty (generator_ok joined) Generator joined.generators _ generator_ok_lem
-      ∙ none_faulty (corridor_sound joined) Corridor joined.corridors _ corridor_ok_lem
-      ∙ none_faulty (row_ok joined) SheetRow (joined.corridors * levels joined) none row_ok_lem
+      sym (where_all_pass (case_tests joined (t + u))
+      (lengths, (counts, (level_ok_lem, (bus_ok_lem, (generator_ok_lem, (corridor_ok_lem, (row_ok_lem, tt))))))))
 
-pub joined_accepted : (c d : Case) (t u : ℕ) → join_fault c t d u ≡ none → case_fault (joined_case c d) (t + u) ≡ none
+pub joined_accepted : (c d : Case) (t u : ℕ) → join_check c t d u ≡ no_refusal → case_check (joined_case c d) (t + u) ≡ no_refusal
 joined_accepted c d t u h = all_accepted c d t u (joinable c d t u h)

@@ -3,7 +3,6 @@
 use Prim.Native.Nat.{ℕ, zero, suc, ◌+◌, ◌-◌, ◌*◌, ◌/◌, ◌%◌, ◌≤◌, ◌<◌}
 use mathlib.Core.Bool.{Bool, true, false, cond, ◌&&◌}
 use mathlib.Core.List.{List, [], ◌∷◌, ◌++◌, append-nil, append_assoc}
-use mathlib.Core.Option.{Option, none, some}
 use mathlib.Core.Path.{◌≡◌, refl, sym, ap, ◌∙◌, subst, fun_ext}
 use native.Mathlib.Nat.{mul_comm, mul-le-mul}
 use native.Mathlib.Omega.{arith}
@@ -26,12 +25,12 @@ use Rattle.casefile_defs.specs.Bounds.{most_levels, most_buses, most_generators,
 use Rattle.casefile_defs.specs.Tables.{Places, places_of, sizes_ok}
 use Rattle.casefile_defs.specs.declared.Header.{Header}
 use Rattle.plan_defs.specs.Case.{Case, Row, row_from, row_if, rows_of, case_with, levels}
-use Rattle.plan_defs.specs.Accept.{case_fault}
+use Rattle.plan_defs.specs.Accept.{case_check}
 use Rattle.plan_defs.specs.Outcome.{Outcome}
 use Rattle.plan_defs.specs.Demand.{AnswerTo}
 use Rattle.plan_defs.specs.declared.CorridorPlan.{CorridorPlan}
 use Rattle.plan_defs.proofs.Accepted.{Accepted, accepted}
-use Rattle.join_defs.specs.Districts.{joined_row, joined_case, join_fault}
+use Rattle.join_defs.specs.Districts.{joined_row, joined_case, join_check}
 use Rattle.case_defs.specs.Cases.{case_as, case_in}
 use Rattle.join_defs.specs.Joining.{header_of, padded, figure_in, sheet_of, laid_out, Outcome as Made, outcome, joined_by, join_cases}
 use Rattle.join_defs.proofs.Levels.{levels_same}
@@ -42,7 +41,7 @@ use Rattle.join_theorems.proofs.Within.{second_at}
 use Rattle.join_defs.proofs.Faults.{Joinable, joinable}
 use Rattle.join_theorems.proofs.Accepted.{all_accepted}
 use Rattle.join_theorems.proofs.Apart.{answers_apart}
-use Rattle.std.specs.Prelude.{Err, Ok}
+use Rattle.std.specs.Prelude.{Err, Ok, Result}
 
 -- ---- the front of a laid out column is the column
 take_padded : {A : Type 0} (z : A) (N n : ℕ) (l : List A) → length l ≡ n → n ≤ N → take n (padded z N l) ≡ l
@@ -245,13 +244,13 @@ laid h k j p q out r e = go (sizes_ok out) e
     t : ℕ
     t = h.target + k.target
 
-    by : (f : Option Refusal) → join_fault c h.target d k.target ≡ f → outcome (Ok j) r ≡ joined_by f (joined_case c d) t out → Laid h k j p q r
-    by (some f) x y = absurd (unequal (cc (ap (λ (o : Made). o.reply) y)))
-    by none x y =
+    by : (f : Result (Unit {0}) Refusal) → join_check c h.target d k.target ≡ f → outcome (Ok j) r ≡ joined_by f (joined_case c d) t out → Laid h k j p q r
+    by (Err f) x y = absurd (unequal (cc (ap (λ (o : Made). o.reply) y)))
+    by (Ok tt) x y =
         record { joins = joinable c d h.target k.target x; header = cc (ap (λ (o : Made). o.reply) y); tables = ap (λ (o : Made). o.places) y }
 
-    go : (b : Bool) → outcome (Ok j) r ≡ cond b (joined_by (join_fault c h.target d k.target) (joined_case c d) t out) (outcome (Err Length) out) → Laid h k j p q r
-    go true x = by (join_fault c h.target d k.target) refl x
+    go : (b : Bool) → outcome (Ok j) r ≡ cond b (joined_by (join_check c h.target d k.target) (joined_case c d) t out) (outcome (Err Length) out) → Laid h k j p q r
+    go true x = by (join_check c h.target d k.target) refl x
     go false x = absurd (unequal (cc (ap (λ (o : Made). o.reply) x)))
 
 pub joined_answer : (h k j : Header) (p q out r : Places) → outcome (Ok j) r ≡ join_cases h p k q out → Joined h k j p q r
@@ -265,7 +264,7 @@ joined_answer h k j p q out r e =
       case = holds;
       target = sum;
       same = l.joins.same;
-      accepted = ap (λ (x : Case). case_fault x j.target) holds ∙ ap (case_fault c) sum ∙ all_accepted (case_as h p) (case_as k q) h.target k.target l.joins;
+      accepted = ap (λ (x : Case). case_check x j.target) holds ∙ ap (case_check c) sum ∙ all_accepted (case_as h p) (case_as k q) h.target k.target l.joins;
     }
 
 -- ---- the theorem: o and x are what planning of the first case leaves and says, v and y the second's, w and z the joined tables'

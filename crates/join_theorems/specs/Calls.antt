@@ -1,10 +1,10 @@
 -- What an answer of `join_cases` is: h and p, k and q are the two cases, j what is said and r the joined tables then.
 use Rattle.std.specs.Prelude.{◌+◌, true, ◌≡◌}
-use Rattle.std.proofs.Math.Option.{none}
+use Rattle.refusal.specs.Reply.{no_refusal}
 use Rattle.casefile_defs.specs.Tables.{Places}
 use Rattle.casefile_defs.specs.declared.Header.{Header}
 use Rattle.case_defs.specs.Cases.{case_as, case_in}
-use Rattle.plan_defs.specs.Accept.{case_fault}
+use Rattle.plan_defs.specs.Accept.{case_check}
 use Rattle.join_defs.specs.Districts.{joined_case, alike}
 
 pub record Joined (h k j : Header) (p q r : Places) : Type 0 where
@@ -14,4 +14,4 @@ pub record Joined (h k j : Header) (p q r : Places) : Type 0 where
   -- the two have one mode, ladder and count of requested levels
   pub same : alike (case_as h p) (case_as k q) ≡ true
   -- planning accepts it
-  pub accepted : case_fault (case_in j r) j.target ≡ none
+  pub accepted : case_check (case_in j r) j.target ≡ no_refusal

@@ -1,7 +1,6 @@
 -- A chain of tests, taken apart by what it came to: where one side of a test says otherwise, the test fell on the other side, and that side says it.
 use mathlib.Core.Path.{◌≡◌, refl}
 use mathlib.Core.Bool.{Bool, true, false, cond}
-use mathlib.Core.Option.{Option, none, some}
 use Rattle.std.specs.Prelude.{Err, Ok, Result}
 use Rattle.loops.proofs.Bools.{unequal}
 
@@ -13,9 +12,6 @@ pub after : {A : Type 0} (b : Bool) {x y z : A} → cond b x y ≡ z → (x ≡ 
 after true e n = absurd (n e)
 after false e n = (refl, e)
 
--- what is said in each kind of chain is not the other thing that may be said
+-- a refusal is no answer
 pub err_not_ok : {A E : Type 0} {e : E} {x : A} → ◌≡◌ {A = Result A E} (Err e) (Ok x) → ⊥
 err_not_ok q = unequal cc
-
-pub some_not_none : {A : Type 0} {x : A} → ◌≡◌ {A = Option A} (some x) none → ⊥
-some_not_none q = unequal cc

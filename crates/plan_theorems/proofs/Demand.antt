@@ -3,7 +3,6 @@
 use Prim.Native.Nat.{ℕ, zero, suc, ◌+◌, ◌-◌, ◌≤◌, ◌<◌, min, max}
 use mathlib.Core.Bool.{Bool, true, false}
 use mathlib.Core.List.{List, [], ◌∷◌, map}
-use mathlib.Core.Option.{Option, none, some}
 use mathlib.Core.Path.{◌≡◌, refl, sym, ap, ◌∙◌, subst}
 use native.Mathlib.Nat.{le_refl, not-suc-le-zero, le_of_suc-le-suc}
 use native.Mathlib.Omega.{arith}
@@ -11,6 +10,7 @@ use borrow.Author.Tests.{ltb-true, ltb-false}
 use lib.Dec.{ltb}
 use lib.Ieee.{le}
 use lib.ListN.{length, get_or, take, drop, length-take, length-drop}
+use Rattle.std.specs.Prelude.{Err, Ok, Result}
 use Rattle.loops.proofs.Bools.{unequal}
 use Rattle.loops.specs.Loops.{tab}
 use Rattle.loops.specs.Sorting.{occ}
@@ -23,7 +23,7 @@ use Rattle.refusal.specs.declared.Refusal.{Refusal}
 use Rattle.plan_defs.specs.Lists.{sum}
 use Rattle.plan_defs.specs.Stage.{Stage, stopped, going}
 use Rattle.plan_defs.specs.Case.{Case, levels, expand, promote, lower_bound, lower_bounds, full_at, kv_of}
-use Rattle.plan_defs.specs.Accept.{case_fault}
+use Rattle.plan_defs.specs.Accept.{case_check}
 use Rattle.plan_defs.specs.Components.{component}
 use Rattle.plan_defs.specs.Dispatch.{dispatch_of}
 use Rattle.plan_defs.specs.Solve.{PlanningCase, planning_state}
@@ -227,15 +227,15 @@ never p f e = unequal cc
 
 ending_both : (c : Case) (target : ℕ) → Binary c → (p : Plan) → ending_of c target ≡ planned p → Demand3 c target p × Tallies c p
 unfolding ending_of
-ending_both c target binary p h = go (case_fault c target) refl h
+ending_both c target binary p h = go (case_check c target) refl h
   where
     on : (ok : Accepted c target) (o : Stage Plan) → On (Both c target ok binary) o → ending_on o ≡ planned p → Demand3 c target p × Tallies c p
     on ok (stopped f) q e = absurd (unequal cc)
     on ok (going t) q e = subst (λ (x : Plan). Demand3 c target x × Tallies c x) (let z : t ≡ p = cc in z) q
 
-    go : (o : Option Refusal) → case_fault c target ≡ o → ending_by o c target ≡ planned p → Demand3 c target p × Tallies c p
-    go (some f) e q = absurd (never p f q)
-    go none e q = let ok = accepted c target e in on ok (plan_for c target) (planned_both c target ok binary) q
+    go : (o : Result (Unit {0}) Refusal) → case_check c target ≡ o → ending_by o c target ≡ planned p → Demand3 c target p × Tallies c p
+    go (Err f) e q = absurd (never p f q)
+    go (Ok tt) e q = let ok = accepted c target e in on ok (plan_for c target) (planned_both c target ok binary) q
 
 pub demand_3 : (c : Case) (target : ℕ) → Binary c → (p : Plan) → ending_of c target ≡ planned p → Demand3 c target p
 demand_3 c target binary p h = (ending_both c target binary p h).0

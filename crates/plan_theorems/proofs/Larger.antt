@@ -4,20 +4,21 @@
 use Prim.Native.Nat.{ℕ, zero, suc, ◌+◌, ◌-◌, ◌≤◌, ◌<◌, zero-le, max}
 use mathlib.Core.Bool.{Bool, true, false, ◌&&◌}
 use mathlib.Core.List.{List, [], ◌∷◌}
-use mathlib.Core.Option.{Option, none, some}
 use mathlib.Core.Path.{◌≡◌, refl, sym, ap, ◌∙◌, subst}
 use native.Mathlib.Nat.{le_refl}
 use native.Mathlib.Omega.{arith}
 use borrow.Author.Tests.{ltb-true, ltb-false, lt-ltb}
 use lib.Dec.{ltb}
 use lib.ListN.{length, get_or}
+use Rattle.std.specs.Prelude.{Err, Ok, Result}
 use Rattle.loops.proofs.Bools.{both, unequal}
 use Rattle.angles_defs.specs.Network.{zeros}
+use Rattle.refusal.specs.Reply.{no_refusal}
 use Rattle.refusal.specs.declared.Refusal.{Refusal}
 use Rattle.plan_defs.specs.Lists.{each, sum}
 use Rattle.plan_defs.specs.Stage.{Stage, stopped, going, onward}
 use Rattle.plan_defs.specs.Case.{Case, promote, full_at}
-use Rattle.plan_defs.specs.Accept.{case_fault}
+use Rattle.plan_defs.specs.Accept.{case_check}
 use Rattle.plan_defs.specs.Solve.{PlanningCase, planning_state}
 use Rattle.plan_defs.specs.Fill.{Filled, unfilled, fill_if, below_full, room, fill_once, fill_rounds, fill_turns, filled_if, fill}
 use Rattle.plan_defs.specs.Plan.{Plan, Ready, ready_of, plan_of, closing, plan_for, planned, ending_on, ending_by, ending_of}
@@ -66,13 +67,13 @@ module _ (c : Case) (target : ℕ) (p : Plan) where
   planned_going (stopped f) e = absurd (unequal cc)
   planned_going (going q) e = cc
 
-  pub answer_of_lem : ending_of c target ≡ planned p → (case_fault c target ≡ none) × (plan_for c target ≡ going p)
+  pub answer_of_lem : ending_of c target ≡ planned p → (case_check c target ≡ no_refusal) × (plan_for c target ≡ going p)
   unfolding ending_of
-  answer_of_lem h = go (case_fault c target) refl h
+  answer_of_lem h = go (case_check c target) refl h
     where
-      go : (o : Option Refusal) → case_fault c target ≡ o → ending_by o c target ≡ planned p → (case_fault c target ≡ none) × (plan_for c target ≡ going p)
-      go (some f) e q = absurd (unequal cc)
-      go none e q = (e, planned_going (plan_for c target) q)
+      go : (o : Result (Unit {0}) Refusal) → case_check c target ≡ o → ending_by o c target ≡ planned p → (case_check c target ≡ no_refusal) × (plan_for c target ≡ going p)
+      go (Err f) e q = absurd (unequal cc)
+      go (Ok tt) e q = (e, planned_going (plan_for c target) q)
 
   pub origin : ending_of c target ≡ planned p → (r : Ready) × Origin c target p r
   unfolding plan_for

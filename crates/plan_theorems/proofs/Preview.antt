@@ -2,32 +2,30 @@
 -- where that is answered (`preview_answers`); and where no refusal is due, the order names each corridor once (`named_once`).
 -- What a plan keeps does not turn on the target; its counts lie within their bounds, and its order names each corridor once.
 use Prim.Native.Nat.{ℕ, ◌≤◌, ◌<◌}
-use mathlib.Core.Bool.{Bool, true, false, not, cond, ◌&&◌}
+use mathlib.Core.Bool.{Bool, true, false, not}
 use mathlib.Core.List.{List}
-use mathlib.Core.Option.{Option, none, some}
 use mathlib.Core.Path.{◌≡◌, refl, sym, ap, ◌∙◌, subst}
 use native.Mathlib.Omega.{arith}
-use borrow.Author.Tests.{ltb-true, lt-ltb, le-ltb, le-leb, leb-true, eq-eqb, eqb-true, ne_eqb}
+use borrow.Author.Tests.{ltb-true, lt-ltb, le-leb, leb-true, eq-eqb, eqb-true, ne_eqb}
 use lib.Dec.{ltb, leb, eqb}
 use lib.ListN.{length, get_or}
+use Rattle.std.specs.Prelude.{Result}
 use Rattle.loops.specs.Loops.{first}
 use Rattle.loops.specs.Sorting.{occ}
 use Rattle.loops.proofs.Bools.{both, and_of, unequal}
-use Rattle.loops.proofs.Chains.{only, some_not_none}
 use Rattle.loops.proofs.Scan.{all_pass, pass_all}
+use Rattle.loops.proofs.Verdicts.{passes_all as all_passed, where_all_pass}
 use Rattle.refusal.specs.declared.Refusal.{Refusal}
-use Rattle.refusal.specs.declared.Refusal.TheVariants.{Length, Count, Corridor, Mode, Order}
 use Rattle.plan_defs.specs.Constants.{most_corridors, most_target, most_initial, most_cap}
 use Rattle.plan_defs.specs.Case.{Case, promote, lower_bound, full_at}
-use Rattle.plan_defs.specs.Accept.{first_fault}
 use Rattle.plan_defs.specs.Demand.{AnswerTo}
 use Rattle.plan_defs.specs.Fill.{fill, filled_if, unfilled}
 use Rattle.plan_defs.specs.Outcome.{Slices, Outcome, kept_if, held}
 use Rattle.plan_defs.specs.Plan.{Plan, Ready, planned, ending_of}
-use Rattle.plan_defs.specs.Preview.{Kept, kept_as, lengths_ok, counts_ok, count_ok, differs_at, first_named, place_ok, kept_fault, preview_fault, refilled, outcome, preview_by, preview}
+use Rattle.plan_defs.specs.Preview.{Kept, kept_as, lengths_ok, differs_at, first_named, preview_tests, preview_check, refilled, outcome, preview_by, preview}
 use Rattle.plan_defs.specs.declared.CorridorPlan.{CorridorPlan}
 use Rattle.plan_defs.proofs.Stages.{On}
-use Rattle.plan_defs.proofs.Accepted.{Accepted, accepted, initial_few, cap_few, passes}
+use Rattle.plan_defs.proofs.Accepted.{Accepted, accepted, initial_few, cap_few}
 use Rattle.plan_defs.proofs.Counts.{full_cap}
 use Rattle.plan_defs.proofs.Opened.{Done, done}
 use Rattle.plan_theorems.proofs.Ranking.{order_once, order_past}
@@ -67,21 +65,18 @@ names_first order j e i h =
     let f = eqb-true (first (differs_at order j) j 0) j e in
     same_not order j i (all_pass (differs_at order j) j (omega arith) i h)
 
--- ---- from the test to the record
+-- ---- from the tests to the record, and back
 module _ (p : Kept) (target places : ℕ) where
-  pub sound_of : preview_fault p target places ≡ none → Sound p target places
-  unfolding preview_fault lengths_ok kept_fault
+  pub sound_of : preview_check p target places ≡ no_refusal → Sound p target places
+  unfolding preview_tests lengths_ok
   sound_of e =
-      let x = only (lengths_ok p places) e some_not_none in
-      let y = only (counts_ok p target) x.1 some_not_none in
-      let z = only (promote p.mode) y.1 some_not_none in
+      let x = all_passed (preview_tests p target places) e in
       let l = both (eqb (length p.before) p.corridors) _ x.0 in
       let m = both (eqb (length p.order) p.corridors) _ l.1 in
       let q = both (eqb (length p.cap) p.corridors) _ m.1 in
-      let n = both (leb p.corridors most_corridors) _ y.0 in
-      let k = passes (count_ok p) Corridor p.corridors _ z.1 in
-      let o = passes (place_ok p) Order p.corridors _ k.1 in
+      let n = both (leb p.corridors most_corridors) _ x.1.0 in
       let w : length p.order ≡ p.corridors = eqb-true _ _ m.0 in
+      let o = λ (j : ℕ) (h : j < length p.order). both (ltb (get_or p.order j 0) p.corridors) _ (x.1.1.1.1.0 j (omega arith)) in
       record {
         before = eqb-true _ _ l.0;
         order = w;
@@ -89,36 +84,26 @@ module _ (p : Kept) (target places : ℕ) where
         places_are = eqb-true _ _ q.1;
         few_corridors = leb-true p.corridors most_corridors n.0;
         low_target = leb-true target most_target n.1;
-        fills = z.0;
+        fills = x.1.1.0;
         counts = λ j h.
-            (let u = both (leb 1 (get_or p.before j 0)) _ (k.0 j h) in
+            (let u = both (leb 1 (get_or p.before j 0)) _ (x.1.1.1.0 j h) in
             let v = both (leb (get_or p.before j 0) most_initial) _ u.1 in
             (leb-true _ _ u.0, leb-true _ _ v.0, leb-true _ _ v.1));
-        named = λ j h. ltb-true _ _ (both (ltb (get_or p.order j 0) p.corridors) _ (o.0 j (omega arith))).0;
-        apart = λ i j h q. names_first p.order j (both (ltb (get_or p.order j 0) p.corridors) _ (o.0 j (omega arith))).1 i h;
+        named = λ j h. ltb-true _ _ (o j h).0;
+        apart = λ i j h q. names_first p.order j (o j q).1 i h;
       }
 
-  -- ---- and back
-  none_faulty : (ok : ℕ → Bool) (fault : ℕ → Refusal) (n : ℕ) (next : Option Refusal) → ((i : ℕ) → i < n → ok i ≡ true) → first_fault ok fault n next ≡ next
-  none_faulty ok fault n next h =
-      ap (λ (b : Bool). cond b (some (fault (first ok n 0))) next) (le-ltb (first ok n 0) n (let z = pass_all ok n h in omega arith))
-
-  pub passes_all : Sound p target places → preview_fault p target places ≡ none
-  unfolding preview_fault lengths_ok kept_fault
+  pub passes_all : Sound p target places → preview_check p target places ≡ no_refusal
+  unfolding preview_tests lengths_ok
   passes_all s =
-      let l : (eqb (length p.before) p.corridors && (eqb (length p.order) p.corridors && (eqb (length p.cap) p.corridors && eqb places p.corridors))) ≡ true =
-      and_of (eq-eqb _ _ s.before) (and_of (eq-eqb _ _ s.order) (and_of (eq-eqb _ _ s.cap) (eq-eqb _ _ s.places_are))) in
-      let n : counts_ok p target ≡ true = and_of (le-leb _ _ s.few_corridors) (le-leb _ _ s.low_target) in
-      ap (λ (b : Bool). cond b (cond (counts_ok p target) (cond (promote p.mode) (kept_fault p) (some Mode)) (some Count)) (some Length)) l
-      ∙ ap (λ (b : Bool). cond b (cond (promote p.mode) (kept_fault p) (some Mode)) (some Count)) n
-      ∙ ap (λ (b : Bool). cond b (kept_fault p) (some Mode)) s.fills
-      ∙ none_faulty (count_ok p) Corridor p.corridors (first_fault (place_ok p) Order p.corridors none)
-      (λ k h. and_of (le-leb _ _ (s.counts k h).0) (and_of (le-leb _ _ (s.counts k h).1) (le-leb _ _ (s.counts k h).2)))
-      ∙ none_faulty (place_ok p) Order p.corridors none
-      (λ j h. and_of (lt-ltb _ _ (s.named j (omega (arith, s.order)))) (first_names p.order j (λ i q. s.apart i j q (omega (arith, s.order)))))
+      let l = and_of (eq-eqb _ _ s.before) (and_of (eq-eqb _ _ s.order) (and_of (eq-eqb _ _ s.cap) (eq-eqb _ _ s.places_are))) in
+      let n = and_of (le-leb _ _ s.few_corridors) (le-leb _ _ s.low_target) in
+      let u = λ (k : ℕ) (h : k < p.corridors). and_of (le-leb _ _ (s.counts k h).0) (and_of (le-leb _ _ (s.counts k h).1) (le-leb _ _ (s.counts k h).2)) in
+      let o = λ (j : ℕ) (h : j < p.corridors). and_of (lt-ltb _ _ (s.named j (omega (arith, s.order)))) (first_names p.order j (λ i q. s.apart i j q (omega (arith, s.order)))) in
+      sym (where_all_pass (preview_tests p target places) (l, (n, (s.fills, (u, (o, tt))))))
 
 -- an order that passes names each corridor once
-pub named_once : (p : Kept) (target places : ℕ) → preview_fault p target places ≡ none → (k : ℕ) → k < p.corridors → occ k p.order ≡ 1
+pub named_once : (p : Kept) (target places : ℕ) → preview_check p target places ≡ no_refusal → (k : ℕ) → k < p.corridors → occ k p.order ≡ 1
 named_once p target places e =
     let s = sound_of p target places e in
     names_each p.corridors p.order s.order s.named s.apart
@@ -165,8 +150,8 @@ module _ (c : Case) (fills : promote c.mode ≡ true) where
       let d = subst (On (Done c)) o.1.ready (done c) in
       let ok = accepted c u (answer_of_lem c u q f).0 in
       let s = plan_sound t u p ok o.0 d o.1 in
-      ap (λ (k : ℕ). preview_by (preview_fault (kept_by_lem p) u k) (kept_by_lem p) u lent) n
-      ∙ ap (λ (x : Option Refusal). preview_by x (kept_by_lem p) u lent) (passes_all (kept_by_lem p) u c.corridors s)
+      ap (λ (k : ℕ). preview_by (preview_check (kept_by_lem p) u k) (kept_by_lem p) u lent) n
+      ∙ ap (λ (x : Result (Unit {0}) Refusal). preview_by x (kept_by_lem p) u lent) (passes_all (kept_by_lem p) u c.corridors s)
       ∙ ap (outcome no_refusal) (sym (refill c t u p q e f ∙ refill_is u p))
 
 -- the same of what two calls of planning answer and leave: in the terms of their promise

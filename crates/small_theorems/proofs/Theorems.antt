@@ -3,13 +3,12 @@
 use Prim.Native.Nat.{ℕ, zero, suc, ◌*◌, ◌<◌}
 use mathlib.Core.Bool.{true, false}
 use mathlib.Core.List.{[], ◌∷◌}
-use mathlib.Core.Option.{none}
 use mathlib.Core.Path.{◌≡◌, refl, sym, ap, ◌∙◌, subst}
 use native.Mathlib.Omega.{arith}
 use lib.Dec.{lit<}
 use lib.ListN.{get_or, length-replicate, get_or-replicate}
 use Rattle.loops.specs.Figures.{nought, one}
-use Rattle.refusal.specs.Reply.{answered}
+use Rattle.refusal.specs.Reply.{answered, no_refusal}
 use Rattle.casefile_defs.specs.Bounds.{most_levels, most_buses, most_generators, most_corridors, most_sheet, row_figures}
 use Rattle.casefile_defs.specs.Layout.{up_to, u8, u16, allowed}
 use Rattle.casefile_defs.specs.Tables.{Places, Outcome, sizes_ok, read_case}
@@ -17,7 +16,7 @@ use Rattle.casefile_defs.specs.declared.Header.{Header}
 use Rattle.casefile_theorems.specs.Writer.{caps_only}
 use Rattle.casefile_theorems.specs.Cases.{Sheet, CaseTables}
 use Rattle.casefile_theorems.proofs.Theorems.{case_back, caps_legal}
-use Rattle.plan_defs.specs.Accept.{case_fault}
+use Rattle.plan_defs.specs.Accept.{case_check}
 use Rattle.plan_defs.proofs.Accepted.{Accepted, accepted}
 use Rattle.small_defs.specs.Networks.{all_places, network_at}
 use Rattle.small_defs.specs.Tables.{header_of, columns_of, laid_out, header_at, tables_at}
@@ -69,8 +68,8 @@ module _ (i : ℕ) (below : i < all_places) where
       (padded_front nought most_sheet columns.sheet (omega (arith, k.sheet)) (m * 1 * row_figures) (k.sheet ∙ (let e : row_figures * (m * 1) ≡ m * 1 * row_figures = omega arith in e)))
 
   -- each is an accepted case
-  pub accepted_case : case_fault (case_in (header_at i) (tables_at i)) (header_at i).target ≡ none
-  accepted_case = ap (λ (p : Places). case_fault (case_as (header_at i) p) (header_at i).target) held ∙ (sound_at i below).accepted
+  pub accepted_case : case_check (case_in (header_at i) (tables_at i)) (header_at i).target ≡ no_refusal
+  accepted_case = ap (λ (p : Places). case_check (case_as (header_at i) p) (header_at i).target) held ∙ (sound_at i below).accepted
 
   -- the place of a case is worked out: it is that of the network that the tables hold
   pub worked_out : place_for (network_in (header_at i) (tables_at i)) ≡ i

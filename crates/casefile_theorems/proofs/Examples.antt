@@ -1,5 +1,4 @@
 -- Worked examples, by computation, of the file that is written of a case: a generator's numbers, and which row of the sheet each line is.
-use Prim.Native.Nat.{ℕ}
 use mathlib.Core.List.{[], ◌∷◌, map}
 use mathlib.Core.Path.{◌≡◌, refl}
 use lib.Ieee.{of_bits, to_bits}

@@ -1,8 +1,8 @@
 // Request ANG.
 use crate::edges::Edges;
-use crate::fields::{Fields, MOST_COUNT, Table, Unanswered};
-use crate::line::AnswerLine;
+use crate::line::{AnswerLine, Unanswered};
 use angles_defs::Ended;
+use request_fields::{Fields, MOST_COUNT, Table};
 
 // The figures of work that the solver is lent for each bus.
 const WORK_PER_BUS: usize = 8;

@@ -1,6 +1,6 @@
 // Request DISP.
-use crate::fields::{Fields, MOST_COUNT, Table, Unanswered};
-use crate::line::AnswerLine;
+use crate::line::{AnswerLine, Unanswered};
+use request_fields::{Fields, MOST_COUNT, NoRequest, Table};
 
 // The limits and costs of the units, a table for each.
 #[derive(Default, Drop)]
@@ -13,7 +13,7 @@ struct Units {
 
 impl Units {
     // The next n units.
-    fn read(fields: &mut Fields, n: usize) -> Result<Units, Unanswered> {
+    fn read(fields: &mut Fields, n: usize) -> Result<Units, NoRequest> {
         let mut units = Units::default();
         for _ in 0..n {
             fields.read_to(&mut units.pmin)?;

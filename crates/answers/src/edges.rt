@@ -1,5 +1,5 @@
 // The edges of a network, a table for each part.
-use crate::fields::{Fields, Table, Unanswered};
+use request_fields::{Fields, NoRequest, Table};
 
 #[derive(Default, Drop)]
 pub struct Edges {
@@ -10,7 +10,7 @@ pub struct Edges {
 
 impl Edges {
     // The next m edges: two ends and a figure.
-    pub fn read(fields: &mut Fields, m: usize) -> Result<Edges, Unanswered> {
+    pub fn read(fields: &mut Fields, m: usize) -> Result<Edges, NoRequest> {
         let mut edges = Edges::default();
         for _ in 0..m {
             fields.read_to(&mut edges.a)?;

@@ -1,7 +1,7 @@
 // Request LAID.
-use crate::fields::{Fields, Unanswered};
-use crate::line::AnswerLine;
+use crate::line::{AnswerLine, Unanswered};
 use crate::sheet::{MOST_FIGURES, read_sheet};
+use request_fields::Fields;
 
 // LAID corridors levels n figure×n places
 pub fn answer_laid(mut fields: Fields, out: &mut AnswerLine) -> Result<(), Unanswered> {

@@ -1,6 +1,6 @@
 // Request LEAD.
-use crate::fields::{Fields, MOST_COUNT, Table, Unanswered};
-use crate::line::AnswerLine;
+use crate::line::{AnswerLine, Unanswered};
+use request_fields::{Fields, MOST_COUNT, Table};
 
 // LEAD n m (a b)×m
 pub fn answer_leaders(mut fields: Fields, out: &mut AnswerLine) -> Result<(), Unanswered> {

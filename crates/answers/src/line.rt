@@ -1,11 +1,58 @@
 // An answer's line.
-use crate::fields::{Field, Unanswered};
 use arrayvec::ArrayVec;
+use plan_defs::listed_bits;
+use refusal::Refusal;
+use request_fields::NoRequest;
 use std::io;
 use std::io::Write;
 
-// Every answer is shorter: the longest, of SHEET or LAID with 256 corridors and 5 levels, has 108,802 bytes.
+// Every answer is shorter: the longest, of SHEET or LAID with as many corridors and levels as there may be, has 108,802 bytes.
 const MOST_ANSWER: usize = 131_072;
+
+// Why a line is not answered with `OK`: two ways to fail, each with an answer of its own.
+#[derive(Clone, Copy)]
+pub enum Unanswered {
+    NoRequest,
+    Refused(Refusal),
+}
+
+impl From<NoRequest> for Unanswered {
+    fn from(_: NoRequest) -> Unanswered {
+        Unanswered::NoRequest
+    }
+}
+
+impl From<Refusal> for Unanswered {
+    fn from(refusal: Refusal) -> Unanswered {
+        Unanswered::Refused(refusal)
+    }
+}
+
+// What an answer has a field for.
+pub trait Put: Copy {
+    // Puts a space and the value.
+    fn put(self, out: &mut AnswerLine);
+}
+
+impl Put for u32 {
+    fn put(self, out: &mut AnswerLine) {
+        out.number(self as usize);
+    }
+}
+
+// Bits, as 16 upper-case hexadecimal digits.
+impl Put for u64 {
+    fn put(self, out: &mut AnswerLine) {
+        out.bits(self);
+    }
+}
+
+// A figure: its bits, a zero's as plus zero and every NaN's as one.
+impl Put for f64 {
+    fn put(self, out: &mut AnswerLine) {
+        out.bits(listed_bits(self));
+    }
+}
 
 // The line as far as it is put together. What would not fit is left out.
 #[derive(Drop)]
@@ -35,11 +82,11 @@ impl AnswerLine {
         let _ = write!(self.bytes, " {x:016X}");
     }
 
-    pub fn field<T: Field>(&mut self, x: T) {
+    pub fn field<T: Put>(&mut self, x: T) {
         x.put(self);
     }
 
-    pub fn fields<T: Field>(&mut self, xs: &[T]) {
+    pub fn fields<T: Put>(&mut self, xs: &[T]) {
         for x in xs {
             x.put(self);
         }

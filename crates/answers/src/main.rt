@@ -6,7 +6,6 @@
 mod ang;
 mod disp;
 mod edges;
-mod fields;
 mod laid;
 mod lead;
 mod line;
@@ -19,12 +18,12 @@ mod single;
 use ang::answer_angles;
 use arrayvec::ArrayVec;
 use disp::answer_dispatch;
-use fields::{Fields, Unanswered};
 use laid::answer_laid;
 use lead::answer_leaders;
-use line::AnswerLine;
+use line::{AnswerLine, Unanswered};
 use place::answer_placement;
 use preview::answer_preview;
+use request_fields::Fields;
 use rows::answer_rows;
 use sheet::answer_sheet;
 use single::{answer_impedance, answer_square_root};
@@ -48,7 +47,7 @@ fn answer(line: &[u8], out: &mut AnswerLine) -> Result<(), Unanswered> {
         return Err(Unanswered::NoRequest);
     }
     let mut fields = Fields::of(line);
-    match fields.next_text().ok_or(Unanswered::NoRequest)? {
+    match fields.next_text()? {
         b"SQRT" => answer_square_root(fields, out),
         b"IMP" => answer_impedance(fields, out),
         b"LEAD" => answer_leaders(fields, out),

@@ -1,7 +1,7 @@
 // Request PLACE.
 use crate::edges::Edges;
-use crate::fields::{Fields, MOST_COUNT, Table, Unanswered};
-use crate::line::AnswerLine;
+use crate::line::{AnswerLine, Unanswered};
+use request_fields::{Fields, MOST_COUNT, Table};
 
 // PLACE n m g reading×n weight×n (a b km)×m bus×g
 pub fn answer_placement(mut fields: Fields, out: &mut AnswerLine) -> Result<(), Unanswered> {

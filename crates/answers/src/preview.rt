@@ -1,7 +1,7 @@
 // Request PREV.
-use crate::fields::{Fields, MOST_COUNT, Table, Unanswered};
-use crate::line::AnswerLine;
+use crate::line::{AnswerLine, Unanswered};
 use mode::PlanMode;
+use request_fields::{Fields, MOST_COUNT, Table};
 
 // PREV mode target m before×m cap×m order×m
 pub fn answer_preview(mut fields: Fields, out: &mut AnswerLine) -> Result<(), Unanswered> {

@@ -1,7 +1,7 @@
 // Request ROWS.
-use crate::fields::{Fields, Unanswered};
-use crate::line::AnswerLine;
+use crate::line::{AnswerLine, Unanswered};
 use crate::sheet::read_sheet;
+use request_fields::Fields;
 
 // ROWS corridors levels surveyed k n figure×n m figure×m
 pub fn answer_rows(mut fields: Fields, out: &mut AnswerLine) -> Result<(), Unanswered> {

@@ -1,6 +1,6 @@
 // Requests SQRT and IMP, of one figure each.
-use crate::fields::{Fields, Unanswered};
-use crate::line::AnswerLine;
+use crate::line::{AnswerLine, Unanswered};
+use request_fields::Fields;
 
 // SQRT v
 pub fn answer_square_root(mut fields: Fields, out: &mut AnswerLine) -> Result<(), Unanswered> {

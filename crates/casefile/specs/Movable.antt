@@ -1,16 +1,16 @@
 -- What moving asks of a file's buses, and both operations as one: the buses as records of a kind.
-use Rattle.std.specs.Prelude.{ℕ, ◌+◌, ◌<◌, ◌≤◌, Bool, cond, ◌||◌, List, ◌≡◌, eqb, length, Option, Some, None, Err, Ok, Result}
+use Rattle.std.specs.Prelude.{ℕ, ◌+◌, ◌*◌, ◌<◌, ◌≤◌, Bool, cond, ◌||◌, List, ◌≡◌, eqb, length, Option, Some, None, Err, Ok, Result}
 use Rattle.loops.specs.Loops.{fault}
 use Rattle.refusal.specs.declared.Refusal.{Refusal}
 use Rattle.refusal.specs.declared.Refusal.TheVariants.{Length, Weight}
-use Rattle.casefile_defs.specs.Bounds.{most_buses, most_bytes}
+use Rattle.casefile_defs.specs.Bounds.{most_levels, most_buses, most_bytes}
 use Rattle.casefile_defs.specs.Layout.{size_of, weighs, spot}
 use Rattle.casefile_defs.specs.Moving.{called_bytes, weighs_one, Moved, moved_as, unmoved, moved_to}
 use Rattle.casefile_defs.specs.Reading.{read_as}
-use Rattle.casefile_defs.specs.Tables.{buses_at}
+use Rattle.casefile_defs.specs.Tables.{levels_at, buses_at}
 use Rattle.casefile_defs.specs.declared.Header.{Header}
 use Rattle.casefile_defs.specs.declared.Kind.{Kind}
-use Rattle.casefile_defs.specs.declared.Kind.TheVariants.{Bus, WeighedBus}
+use Rattle.casefile_defs.specs.declared.Kind.TheVariants.{Level, Bus, WeighedBus}
 use Rattle.casefile_defs.specs.declared.Wanted.{Wanted}
 use Rattle.casefile.specs.Records.{Records}
 
@@ -21,12 +21,16 @@ Kept s at n = (i : ℕ) → i < n → spot Bus s at i + (2 + called_bytes) ≤ l
 abbrev pub AllWeighed : List ℕ → ℕ → ℕ → Type 0
 AllWeighed s at n = (i : ℕ) → i < n → spot Bus s at i + size_of WeighedBus ≤ length s
 
+-- where the buses begin at the latest
+abbrev pub last_start : ℕ
+last_start = levels_at + most_levels * size_of Level
+
 pub record Movable (t : Records) : Type 0 where
   pub buses : t.kind ≡ Bus
   pub kept : Kept t.file t.at t.count
   pub few : t.count ≤ most_buses
   pub inside : t.at ≤ length t.file
-  pub early : t.at ≤ 65
+  pub early : t.at ≤ last_start
   pub within : spot Bus t.file t.at t.count ≤ length t.file
 
 -- whether bus i loses no weight as a record of kind k: the kind has one too, or the weight is 1

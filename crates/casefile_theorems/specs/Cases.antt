@@ -1,13 +1,14 @@
 -- The cases that a file can hold: the counts in their bounds, each number in its field's range, any figure, and zeros past the counts.
-use Rattle.std.specs.Prelude.{ℕ, ◌*◌, ◌^◌, ◌<◌, ◌≤◌, true, false, List, ◌≡◌, T, Float, length, get_or, take, replicate}
+use Rattle.std.specs.Prelude.{ℕ, ◌+◌, ◌*◌, ◌^◌, ◌<◌, ◌≤◌, true, false, List, ◌≡◌, T, Float, length, get_or, take, replicate}
 use Rattle.std.specs.Float.{binary64}
 use Rattle.std.specs.Float.Ieee.{fits}
 use Rattle.loops.specs.Figures.{nought, one}
 use Rattle.casefile_defs.specs.Bounds.{most_levels, most_buses, most_generators, most_corridors, most_sheet, row_figures}
-use Rattle.casefile_defs.specs.Layout.{Field, up_to, u8, u16, width_of, allowed}
+use Rattle.casefile_defs.specs.Layout.{Field, up_to, u8, u16, width_of, allowed, size_of}
 use Rattle.casefile_defs.specs.Reading.{levels, lines, counts_ok}
 use Rattle.casefile_defs.specs.Tables.{Places, places_of, basis_of, basis_field}
 use Rattle.casefile_defs.specs.declared.Header.{Header}
+use Rattle.casefile_defs.specs.declared.Kind.TheVariants.{Head, Level, Generator, Line, CappedCorridor, WeighedBus}
 use Rattle.casefile_theorems.specs.Writer.{Form, basis_at, row_cell}
 
 -- a column of n places: a number in its field's range for each record, and zero past them
@@ -54,10 +55,11 @@ pub record Legal (f : Form) (h : Header) (p : Places) : Type 0 where
   pub weights : f.weighed ≡ false → (i : ℕ) → i < h.buses → get_or p.weight i nought ≡ one
   pub caps : (i : ℕ) → i < h.corridors → f.capped i ≡ false → get_or p.cap i 0 ≡ 0
 
--- the longest file of a case, without zeros after it: 15 bytes of header, 5 levels of 10, 256 buses of 19, 128 generators of 37, 256 corridors of 24 and
--- 1,280 sheet rows of 35
+-- the longest file of a case, without zeros after it: the most records of each kind, each bus with a weight and each corridor with a cap
 abbrev pub longest : ℕ
-longest = 60609
+longest =
+    size_of Head + most_levels * size_of Level + most_buses * size_of WeighedBus + most_generators * size_of Generator + most_corridors * size_of CappedCorridor
+    + most_corridors * most_levels * size_of Line
 
 -- of each table the places of the header's records
 abbrev pub fronts : Header → Places → Places

@@ -6,6 +6,7 @@ ghost use Rattle.listing_defs.specs.Lines.{line_of, most_text};
 use arrayvec::ArrayVec;
 use itoa::Buffer;
 use listing_defs::Field;
+use loops::{MOST_BUSES, MOST_CORRIDORS, MOST_GENERATORS, MOST_LEVELS};
 use plan_defs::listed_bits;
 use std::marker::Model;
 
@@ -14,7 +15,12 @@ const PLAN_ROOM: usize = 213;
 
 const LINE_ROOM: usize = 79;
 
-const MOST_LINES: usize = 902;
+const MOST_LINES: usize = MOST_LEVELS
+    + MOST_BUSES
+    + MOST_BUSES
+    + MOST_GENERATORS
+    + MOST_CORRIDORS
+    + 1;
 
 const MOST_TEXT: usize = PLAN_ROOM + LINE_ROOM * MOST_LINES;
 

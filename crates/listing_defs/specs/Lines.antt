@@ -1,5 +1,6 @@
 -- The text of each line of the listing (document 01, "Case file"), and of the whole listing.
 use Rattle.std.specs.Prelude.{ℕ, zero, suc, ◌+◌, ◌*◌, List, [], ◌∷◌, ◌++◌, map, length, get_or, Float}
+use Rattle.loops.specs.Bounds.{most_levels, most_buses, most_generators, most_corridors}
 use Rattle.loops.specs.Figures.{at}
 use Rattle.mode.specs.Number.{mode_number}
 use Rattle.mode.specs.declared.PlanMode.{PlanMode}
@@ -90,9 +91,9 @@ line_room = 79
 abbrev pub room_for : ℕ → ℕ
 room_for n = plan_room + line_room * n
 
--- the largest case has five levels, 256 grounds, buses and corridors, 128 generators, and MX
+-- the most added levels, grounds, buses, generators and corridors, and MX
 abbrev pub most_lines : ℕ
-most_lines = 902
+most_lines = most_levels + most_buses + most_buses + most_generators + most_corridors + 1
 
 abbrev pub most_text : ℕ
 most_text = room_for most_lines

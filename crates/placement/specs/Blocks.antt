@@ -1,6 +1,6 @@
 -- The candidates by blocks of sixteen buses, of each of which the nearest is kept: what the search knows, so that it need not look at
 -- every bus for the next one to settle.
-use Rattle.std.specs.Prelude.{◌≡◌, List, true, cond, ◌&&◌, ◌||◌, ℕ, ◌+◌, ◌*◌, ◌≤◌, ◌<◌, eqb, ltb, length, get_or, Float, Option, None}
+use Rattle.std.specs.Prelude.{◌≡◌, List, true, cond, ◌&&◌, ◌||◌, ℕ, ◌+◌, ◌*◌, ◌/◌, ◌≤◌, ◌<◌, eqb, ltb, length, get_or, Float, Option, None}
 use Rattle.std.specs.Option.{ForSome}
 use Rattle.std.specs.Float.Ieee.{lt, le}
 use Rattle.loops.specs.Figures.{at}
@@ -13,7 +13,7 @@ abbrev pub block_size : ℕ
 block_size = 16
 
 abbrev pub most_blocks : ℕ
-most_blocks = 16
+most_blocks = most_buses / block_size
 
 -- bus b is chosen before j: it is no farther, and nearer where j has the lower number
 abbrev pub Before : List Float → ℕ → ℕ → Type 0

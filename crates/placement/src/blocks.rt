@@ -14,12 +14,9 @@ ghost use Rattle.placement.specs.Marks.{marks_in, origin_of};
 ghost use Rattle.placement.specs.Views.{labels_in};
 ghost use Rattle.placement.specs.Blocks.{block_size, most_blocks, Chosen, closer, nearest_with, Front};
 
-use crate::BLOCKS;
 use crate::labels::{Labels, Mark};
+use crate::{BLOCK, BLOCKS};
 use loops::MOST_BUSES;
-
-// Buses of a block.
-const BLOCK: usize = 16;
 
 // Whether bus i is chosen before the best so far.
 fn is_nearer(n: usize, dist: &[f64; MOST_BUSES], best: Option<usize>, i: usize) -> bool

@@ -8,6 +8,7 @@ ghost use Rattle.placement_defs.specs.Support.{outcome, placement};
 use crate::check::Request;
 use crate::lists::Lists;
 use crate::network::Network;
+use loops::MOST_BUSES;
 use refusal::Refusal;
 
 mod blocks;
@@ -19,8 +20,10 @@ mod labels;
 mod lists;
 mod network;
 
-// Blocks of sixteen buses.
-const BLOCKS: usize = 16;
+// Buses of a block, and blocks.
+const BLOCK: usize = 16;
+
+const BLOCKS: usize = MOST_BUSES / BLOCK;
 
 // Puts a condenser at the farthest loaded bus as long as one lies more than 100 km of corridor from the nearest generator or
 // condenser, then sizes each to half the load that lies nearest to it, 5 Mvar at least. A bus's load is its reading times its weight, rounded once.

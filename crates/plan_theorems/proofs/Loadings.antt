@@ -18,7 +18,7 @@ use Rattle.loops.proofs.Order.{real, bounded_real, finite_bounded, le_of_lt, le_
 use Rattle.loops.proofs.Scan.{all_pass}
 use Rattle.loops.proofs.Signs.{div_real, neg_real}
 use Rattle.leaders.specs.Operation.{corridor_ok}
-use Rattle.plan_defs.specs.Constants.{transformer_min_mva, most_initial, most_cap, subtransmission_kv}
+use Rattle.plan_defs.specs.Constants.{transformer_min_mva, most_initial, most_cap, subtransmission_kv, subtransmission_max_circuits, max_circuits_per_corridor}
 use Rattle.plan_defs.specs.Case.{Case, levels, level_of, row_at, kv_high, lower_bound, own_cap, circuit_cap, cap_at, first_levels, end_a, end_b, promote}
 use Rattle.plan_defs.specs.Accept.{level_ok, corridor_sound}
 use Rattle.plan_defs.specs.Demand.{cap_of}
@@ -146,11 +146,11 @@ module _ (c : Case) (target : ℕ) (ok : Accepted c target) (level : List ℕ) (
   km_real : T (real (at c.km k))
   km_real = right_real nought (at c.km k) (both (le nought (at c.km k)) _ spans.0).0
 
-most_few : (c : Case) (k : ℕ) → own_cap c k ≤ most_cap → cap_of c k ≤ 6
+most_few : (c : Case) (k : ℕ) → own_cap c k ≤ most_cap → cap_of c k ≤ most_cap
 unfolding cap_of cap_at circuit_cap
 most_few c k h = own_few (own_cap c k) _ h (go (not (promote c.mode) && lt (kv_high c (first_levels c) k) subtransmission_kv))
   where
-    go : (b : Bool) → cond b 6 4 ≤ 6
+    go : (b : Bool) → cond b subtransmission_max_circuits max_circuits_per_corridor ≤ most_cap
     go true = omega arith
     go false = omega arith
 

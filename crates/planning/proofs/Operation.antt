@@ -1,6 +1,5 @@
 -- The operation: the check's refusal, the stages' refusal, or the plan that they lead to, with the slices finished, is the defined outcome; and an answer has demand 3.
-use Rattle.std.proofs.Common.{◌≡◌, ℕ, ◌≤◌, Bool, List, length, replicate, sym, ap, ◌∙◌, subst}
-use mathlib.Core.Option.{Option}
+use Rattle.std.proofs.Common.{◌≡◌, ℕ, ◌≤◌, List, length, replicate, sym, ap, ◌∙◌, subst}
 use lib.Ieee.{Float}
 use Rattle.refusal.specs.declared.Refusal.{Refusal}
 use Rattle.loops.specs.Figures.{nought}
@@ -10,11 +9,11 @@ use Rattle.plan_defs.specs.Constants.{most_buses}
 use Rattle.plan_defs.specs.Case.{Case, Row, rows_of, case_with, promote, levels}
 use Rattle.plan_defs.specs.Solve.{PlanningCase, planning_state}
 use Rattle.plan_defs.specs.Fill.{fill}
-use Rattle.plan_defs.specs.Plan.{Plan, Ready, ready_of, plan_of, closing, ending_on, ending_by, ending_of, plan_for}
+use Rattle.plan_defs.specs.Plan.{Plan, Ready, ready_of, plan_of, closing, ending_on, plan_for}
 use Rattle.plan_defs.proofs.Stages.{On, on_onward}
 use Rattle.plan_defs.proofs.Opened.{Done, done}
 use Rattle.plan_theorems.proofs.Cursor.{order_length}
-use Rattle.plan_defs.specs.Outcome.{Slices, slices, slices_ok, StageLengths, work_places, kept_if, kept_of, summary, Outcome, outcome, outcome_by, outcome_if, plan_corridors}
+use Rattle.plan_defs.specs.Outcome.{Slices, slices, slices_ok, StageLengths, work_places, kept_if, kept_of, summary, Outcome, outcome, outcome_by, plan_corridors}
 use Rattle.plan_defs.specs.Demand.{AnswerTo}
 use Rattle.plan_defs.specs.declared.CorridorPlan.{CorridorPlan}
 use Rattle.acceptance.specs.Check.{check_of}
@@ -29,7 +28,7 @@ use Rattle.planning.proofs.Draws.{Laid}
 use Rattle.planning.proofs.ClosingWhole.{zeroed_is, held_is}
 use Rattle.planning.proofs.Supplies.{supplied}
 use Rattle.plan_theorems.proofs.Outcomes.{Lengths, lengths_of}
-use Rattle.planning.proofs.Sounds.{sound, refused_outcome}
+use Rattle.planning.proofs.Sounds.{sound, ended_lem}
 use Rattle.std.specs.Prelude.{Err, Ok, Result}
 use Rattle.refusal.specs.Reply.{reply_of, no_refusal}
 use Rattle.planning.specs.Tables.{grid_of}
@@ -71,7 +70,7 @@ module _ (c : Case) (target : ℕ) (s : Slices) where
 
   -- 1 to 7
   pub ends_unaccepted : Binary c → (f : Refusal) → Err f ≡ check_of (slices_ok c s) (tables_of_lem c) target → Ends (Err f) s
-  ends_unaccepted binary f e = ends_by binary (Err f) s (refused_outcome c target s f e)
+  ends_unaccepted binary f e = ends_by binary (Err f) s (ended_lem c target s (Err f) e)
 
   module _ (ok : no_refusal ≡ check_of (slices_ok c s) (tables_of_lem c) target) where
     is_sound : Sound c target
@@ -113,11 +112,7 @@ module _ (c : Case) (target : ℕ) (s : Slices) where
     supplied_by load e = subst (λ (l : List Float). Supplied (supply_of l c.bus c.slack c.pmin c.pmax c.c1 c.c2)) (sym e) (supplied c target is_sound)
 
     ends : outcome_by (ending_on (plan_for c target)) c s ≡ plan_corridors c target s
-    unfolding plan_corridors ending_of
-    ends =
-        sym
-        (ap (λ (b : Bool). outcome_if b c target s) (passed_by_lem (slices_ok c s) c target ok).0
-        ∙ ap (λ (f : Option Refusal). outcome_by (ending_by f c target) c s) (passed_by_lem (slices_ok c s) c target ok).1)
+    ends = ended_lem c target s no_refusal ok
 
     -- what the stages say, of slices that they left
     module _ (sheet : List Float) (laid : Laid c sheet) (figures : length sheet ≡ c.figures) (r : Result PlanRun Refusal) (lent : Slices)

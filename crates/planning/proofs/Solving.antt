@@ -1,6 +1,6 @@
 -- A solve over slices is the defined planning state: the edges that were drawn, the angles of `dc_angles`, which refuses 9 alone, and the flows.
 -- Drawn edges join buses, so the request is sound; and `dc_angles` refuses exactly where an angle is not finite.
-use Rattle.std.proofs.Common.{◌≡◌, ℕ, ◌+◌, ◌-◌, ◌*◌, ◌<◌, ◌≤◌, Bool, true, false, not, ltb, leb, List, [], ◌∷◌, ◌++◌, map, length, get_or, take, set, replicate, sym, refl, ap, ◌∙◌, subst, add-one, arith, ltb-false, ltb-true, le-leb}
+use Rattle.std.proofs.Common.{◌≡◌, ℕ, ◌+◌, ◌-◌, ◌<◌, ◌≤◌, Bool, true, false, not, ltb, leb, List, [], ◌∷◌, ◌++◌, map, length, get_or, take, set, replicate, sym, refl, ap, ◌∙◌, subst, add-one, arith, ltb-false, ltb-true, le-leb}
 use native.Mathlib.Nat.{sub-zero}
 use borrow.Author.Tests.{lt-leb}
 use lib.ListN.{length-replicate}
@@ -16,7 +16,7 @@ use Rattle.refusal.specs.declared.Refusal.TheVariants.{NotFinite}
 use Rattle.dispatch_defs.proofs.Callers.{never}
 use Rattle.angles_defs.specs.Network.{Edges, edges_of}
 use Rattle.angles_defs.specs.Solve.{Solved, solve}
-use Rattle.angles_defs.specs.Operation.{Request, request_of, Outcome, outcome, finite_at, finish_if, solve_of, dc_angles}
+use Rattle.angles_defs.specs.Operation.{Request, request_of, work_places, Outcome, outcome, finite_at, finish_if, solve_of, dc_angles}
 use Rattle.angles_defs.specs.declared.Solution.{Solution}
 use Rattle.angles_defs.proofs.Answers.{Sound, of_request}
 use Rattle.angles_defs.proofs.Solves.{solve_places}
@@ -68,14 +68,14 @@ angles_stage q result work S r y w e =
     ∙ ap (λ (n : ℕ). finite_if (leb n (first (finite_at o.x) n 0)) o.x) (sym (solve_places q.n q.edges q.grounds q.injection q.guess))
 
 -- where the solver's work is a part of an array of zeros
-pub work_room : (n : ℕ) → n ≤ most_buses → 8 * n ≤ 2_048
+pub work_room : (n : ℕ) → n ≤ most_buses → work_places n ≤ work_places most_buses
 work_room n h = omega arith
 
 -- ---- what a call of `dc_angles` on these edges says
 module _ (n m : ℕ) (from to : List ℕ) (weight : List Float) (grounds : List ℕ) (injection guess angle : List Float) (E : Edges) (same : edges_of from to weight ≡ E) (size : m ≡ length E.from)
     (b : ℕ) (buses : b ≡ n) (joined : Between b E) (G : Grounded n grounds) (P : SolvePlaces n injection guess angle) (r : Result Solution Refusal) (y w : List Float)
-    (e : outcome r y w ≡ dc_angles (request_of n m (length grounds) from to weight injection grounds guess) angle (take (8 * n - 0) (replicate 2_048 nought))) where
-  own_sound : Sound (request_of n m (length grounds) from to weight injection grounds guess) (length angle) (length (take (8 * n - 0) (replicate 2_048 nought)))
+    (e : outcome r y w ≡ dc_angles (request_of n m (length grounds) from to weight injection grounds guess) angle (take (work_places n - 0) (replicate (work_places most_buses) nought))) where
+  own_sound : Sound (request_of n m (length grounds) from to weight injection grounds guess) (length angle) (length (take (work_places n - 0) (replicate (work_places most_buses) nought)))
   own_sound =
       let J : Between n (edges_of from to weight) = subst (Between n) (sym same) (subst (λ (i : ℕ). Between i E) buses joined) in
       let long : m ≡ length from = size ∙ sym (ap (λ (x : Edges). length x.from) same) in
@@ -89,7 +89,7 @@ module _ (n m : ℕ) (from to : List ℕ) (weight : List Float) (grounds : List 
               grounds = refl;
               guess = P.guess_size;
               result = P.angle_size;
-              work = ap length (front_replicate 2_048 (8 * n) nought (work_room n J.few_buses)) ∙ length-replicate (8 * n) nought;
+              work = ap length (front_replicate (work_places most_buses) (work_places n) nought (work_room n J.few_buses)) ∙ length-replicate (work_places n) nought;
             };
         buses = J.few_buses;
         edges = omega (arith, long, J.few_edges);
@@ -101,7 +101,7 @@ module _ (n m : ℕ) (from to : List ℕ) (weight : List Float) (grounds : List 
 
   own_stage : angle_stage r y ≡ finite_angles (solve n E grounds injection guess).x
   own_stage =
-      angles_stage _ angle (take (8 * n - 0) (replicate 2_048 nought)) own_sound r y w e
+      angles_stage _ angle (take (work_places n - 0) (replicate (work_places most_buses) nought)) own_sound r y w e
       ∙ ap (λ (x : Edges). finite_angles (solve n x grounds injection guess).x) same
 
   pub angles_refused : (f : Refusal) → r ≡ Err f → stopped (NotFinite 0) ≡ finite_angles (solve n E grounds injection guess).x

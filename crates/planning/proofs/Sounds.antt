@@ -1,32 +1,31 @@
 -- What a case that passes the check has, and how the check, the filling and the closing figures lift to the whole case and the lent slices.
 -- Acceptance is taken apart test by test; a definition reads only fields, so that each lifting is by computing, with the lengths put in.
-use Rattle.std.proofs.Common.{◌≡◌, ℕ, ◌+◌, ◌*◌, ◌<◌, ◌≤◌, Bool, true, false, cond, not, ◌&&◌, ◌||◌, eqb, ltb, leb, List, length, get_or, sym, refl, ap, ◌∙◌, subst, arith, leb-true}
-use mathlib.Core.Option.{Option, none, some}
+use Rattle.std.proofs.Common.{◌≡◌, ℕ, ◌+◌, ◌*◌, ◌<◌, ◌≤◌, Bool, true, false, not, ◌&&◌, ◌||◌, eqb, ltb, leb, List, length, get_or, sym, refl, ap, ◌∙◌, subst, arith, leb-true}
 use borrow.Author.Tests.{eqb-false, lt-leb}
 use lib.Ieee.{Float, lt, le}
 use Rattle.loops.specs.Figures.{at, plus, nought, one, half, ten_thousand, million, thousandth, finite, inside}
-use Rattle.loops.proofs.Bools.{both, unequal}
+use Rattle.loops.proofs.Bools.{both}
 use Rattle.refusal.specs.declared.Refusal.{Refusal}
-use Rattle.refusal.specs.declared.Refusal.TheVariants.{Length}
 use Rattle.impedance.specs.Impedance.{rating_ok}
 use Rattle.leaders.specs.Operation.{corridor_ok}
 use Rattle.sheets.specs.Sheet.{row_figures}
 use Rattle.plan_defs.specs.Constants.{kv_tolerance, most_initial, most_cap}
 use Rattle.plan_defs.specs.Case.{Case, levels, kv_of, end_a, end_b, own_cap, Row, row_at}
-use Rattle.plan_defs.specs.Accept.{level_ok, generator_ok, corridor_sound, case_fault}
-use Rattle.plan_defs.specs.Plan.{ending_of}
-use Rattle.plan_defs.specs.Outcome.{Slices, slices_ok, outcome, outcome_if, outcome_by, plan_corridors}
+use Rattle.plan_defs.specs.Accept.{level_ok, generator_ok, corridor_sound, case_check}
+use Rattle.plan_defs.specs.Plan.{ending_on, ending_by, ending_of, plan_for}
+use Rattle.plan_defs.specs.Outcome.{Slices, slices_ok, Outcome, outcome, outcome_if, outcome_by, plan_corridors}
 use Rattle.plan_defs.proofs.Accepted.{Accepted, accepted, end_a_lem, end_b_lem, bus_below, unit_ok_lem, tier_below, load_inside, initial_few, cap_few, row_inside, row_sound_lem}
 use Rattle.plan_defs.proofs.Rows.{row_from_lem}
-use Rattle.acceptance.specs.Check.{check_of}
-use Rattle.acceptance.proofs.Callers.{tables_of_lem, refused_by_lem}
+use Rattle.acceptance.specs.Check.{call_tests, check_of}
+use Rattle.acceptance.proofs.Callers.{tables_of_lem, any_mode}
 use Rattle.planning.specs.Design.{Lines, rate_at}
 use Rattle.planning.specs.Lent.{places_ok}
 use Rattle.planning.specs.Sound.{Sound}
 use Rattle.planning.specs.declared.lent.LentPlaces.{LentPlaces}
 use Rattle.planning.proofs.Draws.{Laid}
 use Rattle.planning.proofs.Ratings.{sheet_rating}
-use Rattle.std.specs.Prelude.{Err, Result}
+use Rattle.std.specs.Prelude.{Err, Ok, Result}
+use Rattle.refusal.specs.Reply.{no_refusal}
 use Rattle.planning.specs.Tables.{grid_of}
 
 -- ---- what the tests of one row say
@@ -116,7 +115,7 @@ module _ (c : Case) (target : ℕ) (ok : Accepted c target) where
       }
 
 -- an accepted case is sound
-pub sound : (c : Case) (target : ℕ) → case_fault c target ≡ none → Sound c target
+pub sound : (c : Case) (target : ℕ) → case_check c target ≡ no_refusal → Sound c target
 sound c target e = sound_of c target (accepted c target e)
 
 -- ---- the lent slices
@@ -147,16 +146,22 @@ module _ (c : Case) (target : ℕ) (s : Slices) where
   unfolding slices_ok
   checked x fits e k = k ∙ ap (λ (b : Bool). check_of b (tables_of_lem c) target) e
 
-  -- a refusal is the defined one, with every slice as it was
-  pub refused_outcome : (f : Refusal) → Err f ≡ check_of (slices_ok c s) (tables_of_lem c) target → outcome (Err f) s ≡ plan_corridors c target s
-  unfolding plan_corridors ending_of outcome_by
-  refused_outcome f e = go (slices_ok c s) (case_fault c target) refl refl (refused_by_lem (slices_ok c s) c target f e)
+  -- what the check says decides: its refusal, with every slice as it was, or the plan
+  abbrev ended : Result (Unit {0}) Refusal → Outcome
+  ended (Err f) = outcome (Err f) s
+  ended (Ok tt) = outcome_by (ending_on (plan_for c target)) c s
+
+  pub ended_lem : (x : Result (Unit {0}) Refusal) → x ≡ check_of (slices_ok c s) (tables_of_lem c) target → ended x ≡ plan_corridors c target s
+  unfolding plan_corridors ending_of outcome_by call_tests
+  ended_lem x e = ap ended (e ∙ any_mode (slices_ok c s) c target) ∙ by_fit (slices_ok c s)
     where
-      go : (b : Bool) (o : Option Refusal) → slices_ok c s ≡ b → case_fault c target ≡ o → cond b o (some Length) ≡ some f
-          → outcome (Err f) s ≡ outcome_if (slices_ok c s) c target s
-      go false o p q h = let z : f ≡ Length = cc in rw (p, z)
-      go true (some g) p q h = let z : f ≡ g = cc in rw (p, q, z)
-      go true none p q h = absurd (unequal cc)
+      by_check : (o : Result (Unit {0}) Refusal) → ended o ≡ outcome_by (ending_by o c target) c s
+      by_check (Err f) = refl
+      by_check (Ok tt) = refl
+
+      by_fit : (b : Bool) → ended (check_of b c target) ≡ outcome_if b c target s
+      by_fit true = by_check (case_check c target)
+      by_fit false = refl
 
 -- ---- the columns that a design reads, at levels on the ladder
 pub lines_of : (c : Case) (target : ℕ) → Sound c target → (sheet : List Float) → Laid c sheet → length sheet ≡ c.figures → (level : List ℕ) → length level ≡ c.buses

@@ -3,8 +3,7 @@ ghost use Rattle.std.specs.Prelude.{◌≡◌, ◌≤◌, true, ◌&&◌, length
 ghost use Rattle.loops.specs.Loops.{fault};
 ghost use Rattle.plan_defs.specs.Case.{promote};
 ghost use Rattle.plan_defs.specs.Constants.{most_corridors, most_initial, most_cap};
-ghost use Rattle.plan_defs.specs.Preview.{kept_as, count_ok, place_ok, preview_fault, refilled};
-ghost use Rattle.acceptance.specs.Check.{answer_of};
+ghost use Rattle.plan_defs.specs.Preview.{kept_as, count_ok, place_ok, preview_check, refilled};
 ghost use Rattle.planning.specs.Preview.{counts_for, order_for, Refillable};
 
 use crate::fill::fill;
@@ -45,7 +44,7 @@ fn faulty_place(order: &[u32]) -> Option<usize>
 }
 
 // ---- all of them
-#[tactic(auto, using(loops::proofs::Scan::fault_some, loops::proofs::Scan::fault_passed), unfolding(plan_defs::specs::Preview::preview_fault, plan_defs::specs::Preview::kept_fault, plan_defs::specs::Preview::lengths_ok))]
+#[tactic(auto, using(loops::proofs::Scan::fault_some, loops::proofs::Scan::fault_passed, crate::proofs::Previews::counts_scan, crate::proofs::Previews::places_scan), unfolding(plan_defs::specs::Preview::preview_tests, plan_defs::specs::Preview::lengths_ok))]
 pub fn check(
     mode: PlanMode,
     target: u32,
@@ -55,7 +54,7 @@ pub fn check(
     cap: &[u32],
     places: usize,
 ) -> Result<(), Refusal>
-    ensures { result ≡ answer_of (preview_fault (kept_as mode m before.now order.now cap.now) target places) }
+    ensures { result ≡ preview_check (kept_as mode m before.now order.now cap.now) target places }
 {
     if !((before.len() == m) & ((order.len() == m) & ((cap.len() == m) & (places == m)))) {
         return Err(Refusal::Length);
@@ -76,6 +75,7 @@ pub fn check(
 }
 
 // ---- the circuits for a target
+#[tactic(auto, unfolding(plan_defs::specs::Preview::refilled, plan_defs::specs::Fill::fill, plan_defs::specs::Case::full_at))]
 pub fn refill(
     mode: PlanMode,
     target: u32,

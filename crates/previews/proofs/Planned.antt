@@ -1,7 +1,6 @@
 -- What planning says of a file and leaves in its slices is what the file's plan keeps; and the parts of arrays that a preview is lent.
 use Prim.Native.Nat.{ℕ, ◌≤◌}
 use mathlib.Core.List.{List, ◌++◌}
-use Rattle.std.proofs.Math.Option.{Option, none, some}
 use mathlib.Core.Path.{◌≡◌, refl, sym, ap, subst, ◌∙◌}
 use lib.ListN.{length, take, drop, replicate, length-replicate}
 use Rattle.std.proofs.lemmas.List.{take-replicate}
@@ -14,7 +13,7 @@ use Rattle.plan_defs.specs.Plan.{Ending, unaccepted, unanswered, planned, ending
 use Rattle.plan_defs.specs.Outcome.{Slices, held, cleared, outcome_by}
 use Rattle.plan_defs.specs.Outcome.{Outcome as PlanOutcome}
 use Rattle.plan_defs.specs.Outcome.{outcome as plan-outcome}
-use Rattle.plan_defs.specs.Preview.{Kept, kept_as, Outcome, outcome, preview_fault, preview_by, preview}
+use Rattle.plan_defs.specs.Preview.{Kept, kept_as, Outcome, outcome, preview_check, preview_by, preview}
 use Rattle.plan_defs.specs.declared.CorridorPlan.{CorridorPlan}
 use Rattle.casefile_defs.specs.Bounds.{most_corridors}
 use Rattle.casefile_defs.specs.Reading.{reading_of}
@@ -78,14 +77,14 @@ module _ (file : List ℕ) where
 
 -- ---- a preview, into the first places of zeros
 -- a refusal leaves them as they were lent
-refused_by_fault : (x : Option Refusal) (f : Refusal) (p : Kept) (target : ℕ) (lent left : List ℕ) → outcome (Err f) left ≡ preview_by x p target lent
+refused_by_check : (x : Result (Unit {0}) Refusal) (f : Refusal) (p : Kept) (target : ℕ) (lent left : List ℕ) → outcome (Err f) left ≡ preview_by x p target lent
     → outcome (Err f) lent ≡ preview_by x p target lent
-refused_by_fault none f p target lent left e = let q = ap (λ (o : Outcome). o.reply) e in cc
-refused_by_fault (some g) f p target lent left e = ap (λ (r : Reply (Unit {0})). record { reply = r; circuits = lent }) (ap (λ (o : Outcome). o.reply) e)
+refused_by_check (Ok tt) f p target lent left e = let q = ap (λ (o : Outcome). o.reply) e in cc
+refused_by_check (Err g) f p target lent left e = ap (λ (r : Reply (Unit {0})). record { reply = r; circuits = lent }) (ap (λ (o : Outcome). o.reply) e)
 
 refused_lent : (f : Refusal) (p : Kept) (target : ℕ) (lent left : List ℕ) → outcome (Err f) left ≡ preview p target lent → outcome (Err f) lent ≡ preview p target lent
 unfolding preview
-refused_lent f p target lent left e = refused_by_fault (preview_fault p target (length lent)) f p target lent left e
+refused_lent f p target lent left e = refused_by_check (preview_check p target (length lent)) f p target lent left e
 
 module _ (p : Kept) (m target : ℕ) (left : List ℕ) (few : m ≤ most_corridors) where
   abbrev zeros : List ℕ

@@ -2,6 +2,7 @@
 use crate::lent::{Mark, Wrong, kept, lent, lent_mut};
 use crate::operation::{Calls, Operation, Past};
 use crate::report::Outcome;
+use loops::MOST_GENERATORS;
 
 pub struct Dispatch;
 
@@ -13,7 +14,7 @@ impl Operation for Dispatch {
 
     const RIGHT: Calls<usize> = &[("dispatch", 2)];
 
-    const PAST: Past<usize> = &[("dispatch of 129 units", 129, None)];
+    const PAST: Past<usize> = &[("dispatch of 129 units", MOST_GENERATORS + 1, None)];
 
     fn call(units: usize, wrong: Option<Wrong>) -> Outcome {
         let pmin = [0.0, 10.0, 0.0];

@@ -5,7 +5,7 @@ use crate::operation::{Calls, Operation, Past};
 use crate::report::Outcome;
 use crate::tables::Tables;
 use casefile_defs::Header;
-use loops::MOST_TARGET;
+use loops::{MOST_BUSES, MOST_TARGET};
 use mode::PlanMode;
 
 const L: Header = Header {
@@ -18,9 +18,15 @@ const L: Header = Header {
     requested: 1,
 };
 
-const MANY: Header = Header { buses: 257, ..L };
+const MANY: Header = Header {
+    buses: MOST_BUSES + 1,
+    ..L
+};
 
-const PAST_TARGET: Header = Header { target: 65537, ..L };
+const PAST_TARGET: Header = Header {
+    target: MOST_TARGET + 1,
+    ..L
+};
 
 const FULL_TARGET: Header = Header {
     target: MOST_TARGET,

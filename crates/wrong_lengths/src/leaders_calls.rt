@@ -2,6 +2,7 @@
 use crate::lent::{Mark, Wrong, kept, lent, lent_mut};
 use crate::operation::{Calls, Operation, Past};
 use crate::report::Outcome;
+use loops::MOST_BUSES;
 
 pub struct Leaders;
 
@@ -13,7 +14,7 @@ impl Operation for Leaders {
 
     const RIGHT: Calls<usize> = &[("leaders", 3)];
 
-    const PAST: Past<usize> = &[("leaders of 257 buses", 257, None)];
+    const PAST: Past<usize> = &[("leaders of 257 buses", MOST_BUSES + 1, None)];
 
     fn call(buses: usize, wrong: Option<Wrong>) -> Outcome {
         let a = [0, 1, 2];

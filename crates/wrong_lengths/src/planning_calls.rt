@@ -3,6 +3,7 @@ use crate::case_l;
 use crate::lent::{Mark, Wrong, kept, lent, lent_mut};
 use crate::operation::{Calls, Operation, Past};
 use crate::report::Outcome;
+use loops::MOST_BUSES;
 use mode::PlanMode;
 
 // The places of a work slice, and one more.
@@ -18,7 +19,7 @@ impl Operation for Planning {
 
     const RIGHT: Calls<usize> = &[("planning", 2)];
 
-    const PAST: Past<usize> = &[("planning of 257 buses", 257, None)];
+    const PAST: Past<usize> = &[("planning of 257 buses", MOST_BUSES + 1, None)];
 
     // As long as the operation has slices, each lent by a line.
     fn call(buses: usize, wrong: Option<Wrong>) -> Outcome {

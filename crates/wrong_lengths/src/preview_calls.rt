@@ -2,6 +2,7 @@
 use crate::lent::{Mark, Wrong, kept, lent, lent_mut};
 use crate::operation::{Calls, Operation, Past};
 use crate::report::Outcome;
+use loops::MOST_CORRIDORS;
 use mode::PlanMode;
 
 pub struct Preview;
@@ -14,7 +15,7 @@ impl Operation for Preview {
 
     const RIGHT: Calls<usize> = &[("preview", 2)];
 
-    const PAST: Past<usize> = &[("preview of 257 corridors", 257, None)];
+    const PAST: Past<usize> = &[("preview of 257 corridors", MOST_CORRIDORS + 1, None)];
 
     fn call(corridors: usize, wrong: Option<Wrong>) -> Outcome {
         let before = [1, 2, 1];

@@ -2,6 +2,7 @@
 use crate::lent::{Mark, Wrong, lent};
 use crate::operation::{Calls, Operation, Past};
 use crate::report::Outcome;
+use loops::MOST_CORRIDORS;
 use plan_defs::CorridorPlan;
 
 const PLAN: CorridorPlan = CorridorPlan {
@@ -30,7 +31,7 @@ impl Operation for Season {
 
     const RIGHT: Calls<usize> = &[("season", 2)];
 
-    const PAST: Past<usize> = &[("season of 257 corridors", 257, None)];
+    const PAST: Past<usize> = &[("season of 257 corridors", MOST_CORRIDORS + 1, None)];
 
     fn call(corridors: usize, wrong: Option<Wrong>) -> Outcome {
         let circuits = [u32::MARK; 3];

@@ -2,6 +2,7 @@
 use crate::lent::{Mark, Wrong, kept, lent, lent_mut};
 use crate::operation::{Calls, Operation, Past};
 use crate::report::Outcome;
+use loops::MOST_CORRIDORS;
 
 // Two levels and a corridor of 100 km.
 pub struct Sheet;
@@ -14,7 +15,7 @@ impl Operation for Sheet {
 
     const RIGHT: Calls<usize> = &[("sheet", 1)];
 
-    const PAST: Past<usize> = &[("sheet of 257 corridors", 257, None)];
+    const PAST: Past<usize> = &[("sheet of 257 corridors", MOST_CORRIDORS + 1, None)];
 
     fn call(corridors: usize, wrong: Option<Wrong>) -> Outcome {
         let ladder = [345.0, 138.0, 69.0];
@@ -44,7 +45,7 @@ impl Operation for Rows {
 
     const RIGHT: Calls<usize> = &[("rows", 2)];
 
-    const PAST: Past<usize> = &[("rows of 257 corridors", 257, None)];
+    const PAST: Past<usize> = &[("rows of 257 corridors", MOST_CORRIDORS + 1, None)];
 
     fn call(corridors: usize, wrong: Option<Wrong>) -> Outcome {
         let surveyed = [f64::MARK; 6];
@@ -72,7 +73,7 @@ impl Operation for Laid {
 
     const RIGHT: Calls<usize> = &[("laid", 2)];
 
-    const PAST: Past<usize> = &[("laid of 257 corridors", 257, None)];
+    const PAST: Past<usize> = &[("laid of 257 corridors", MOST_CORRIDORS + 1, None)];
 
     fn call(corridors: usize, wrong: Option<Wrong>) -> Outcome {
         let rows = [1.0; 11];

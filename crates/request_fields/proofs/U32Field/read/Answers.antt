@@ -1,6 +1,6 @@
 use Rattle.std.proofs.Common.{◌<◌, arith}
-use Rattle.answers.proofs.Digits.{one_more, stays_below}
-use Rattle.answers.proofs.fields.U32Field.read.Goals as goal
+use Rattle.request_fields.proofs.Digits.{one_more, stays_below}
+use Rattle.request_fields.proofs.U32Field.read.Goals as goal
 
 pub overflow_mul-value : goal.overflow_mul-value
 overflow_mul-value c =

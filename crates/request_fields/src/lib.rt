@@ -1,10 +1,10 @@
-// The fields of a request: what stands between its spaces.
+// The fields of a request: what stands between the spaces of its line. Proved: reading ends, nothing overflows, and a count is no more than
+// the tables have room for. What a field reads as is tested (the program `answers`).
+#![tactic(auto)]
+
 ghost use Rattle.std.specs.Prelude.{◌≤◌, IfOk};
 
-use crate::line::AnswerLine;
 use arrayvec::ArrayVec;
-use plan_defs::listed_bits;
-use refusal::Refusal;
 use std::num::f64_from_bits_with_nan;
 
 const SPACE: u8 = b' ';
@@ -18,25 +18,13 @@ pub const MOST_COUNT: usize = 400;
 // A table that is as long as a count.
 pub type Table<T> = ArrayVec<T, MOST_COUNT>;
 
-// Why a line is not answered with `OK`: two ways to fail, each with an answer of its own.
+// The line is no request.
 #[derive(Clone, Copy)]
-pub enum Unanswered {
-    NoRequest,
-    Refused(Refusal),
-}
-
-impl From<Refusal> for Unanswered {
-    fn from(refusal: Refusal) -> Unanswered {
-        Unanswered::Refused(refusal)
-    }
-}
+pub struct NoRequest;
 
 // What one field writes. Each type has a form of its own: one to nine decimal digits, 16 hexadecimal ones, or a figure's bits.
 pub trait Field: Copy + Default {
     fn read(field: &[u8]) -> Option<Self>;
-
-    // Puts a space and the value.
-    fn put(self, out: &mut AnswerLine);
 }
 
 // A whole number, of one to nine decimal digits.
@@ -53,10 +41,6 @@ impl Field for u32 {
         }
         Some(value)
     }
-
-    fn put(self, out: &mut AnswerLine) {
-        out.number(self as usize);
-    }
 }
 
 // Bits, as 16 upper-case hexadecimal digits.
@@ -70,20 +54,12 @@ impl Field for u64 {
         hex::decode_to_slice(field, &mut bytes).ok()?;
         Some(u64::from_be_bytes(bytes))
     }
-
-    fn put(self, out: &mut AnswerLine) {
-        out.bits(self);
-    }
 }
 
-// A figure: its bits. Answers have a zero as plus zero, and every NaN as one.
+// A figure: its bits.
 impl Field for f64 {
     fn read(field: &[u8]) -> Option<f64> {
         Some(f64_from_bits_with_nan(u64::read(field)?))
-    }
-
-    fn put(self, out: &mut AnswerLine) {
-        out.bits(listed_bits(self));
     }
 }
 
@@ -99,33 +75,33 @@ impl<'a> Fields<'a> {
     }
 
     // The next field's text, up to the next space or the end of the line.
-    pub fn next_text(&mut self) -> Option<&'a [u8]> {
-        let rest = self.rest?;
+    pub fn next_text(&mut self) -> Result<&'a [u8], NoRequest> {
+        let rest = self.rest.ok_or(NoRequest)?;
         match rest.iter().position(|b| *b == SPACE) {
             Some(end) => {
                 self.rest = Some(&rest[end + 1..]);
-                Some(&rest[..end])
+                Ok(&rest[..end])
             }
             None => {
                 self.rest = None;
-                Some(rest)
+                Ok(rest)
             }
         }
     }
 
     // What the next field writes.
-    pub fn read<T: Field>(&mut self) -> Result<T, Unanswered> {
-        let field = self.next_text().ok_or(Unanswered::NoRequest)?;
-        T::read(field).ok_or(Unanswered::NoRequest)
+    pub fn read<T: Field>(&mut self) -> Result<T, NoRequest> {
+        let field = self.next_text()?;
+        T::read(field).ok_or(NoRequest)
     }
 
     // The next field, a count.
-    pub fn count(&mut self) -> Result<usize, Unanswered>
+    pub fn count(&mut self) -> Result<usize, NoRequest>
         ensures { IfOk result (λ n. n ≤ MOST_COUNT) }
     {
         let n = self.read::<u32>()? as usize;
         if n > MOST_COUNT {
-            return Err(Unanswered::NoRequest);
+            return Err(NoRequest);
         }
         Ok(n)
     }
@@ -134,16 +110,16 @@ impl<'a> Fields<'a> {
     pub fn read_to<T: Field, const N: usize>(
         &mut self,
         table: &mut ArrayVec<T, N>,
-    ) -> Result<(), Unanswered> {
+    ) -> Result<(), NoRequest> {
         let value = self.read()?;
-        table.try_push(value).map_err(|_| Unanswered::NoRequest)
+        table.try_push(value).map_err(|_| NoRequest)
     }
 
     // The next n fields, a table.
     pub fn table<T: Field, const N: usize>(
         &mut self,
         n: usize,
-    ) -> Result<ArrayVec<T, N>, Unanswered> {
+    ) -> Result<ArrayVec<T, N>, NoRequest> {
         let mut table = ArrayVec::new();
         for _ in 0..n {
             self.read_to(&mut table)?;
@@ -152,7 +128,7 @@ impl<'a> Fields<'a> {
     }
 
     // Fills a table with the next fields.
-    pub fn fill<T: Field>(&mut self, table: &mut [T]) -> Result<(), Unanswered> {
+    pub fn fill<T: Field>(&mut self, table: &mut [T]) -> Result<(), NoRequest> {
         for x in table {
             *x = self.read()?;
         }
@@ -160,10 +136,10 @@ impl<'a> Fields<'a> {
     }
 
     // A line is a request only if it is read to its end.
-    pub fn end(self) -> Result<(), Unanswered> {
+    pub fn end(self) -> Result<(), NoRequest> {
         match self.rest {
             None => Ok(()),
-            Some(_) => Err(Unanswered::NoRequest),
+            Some(_) => Err(NoRequest),
         }
     }
 }

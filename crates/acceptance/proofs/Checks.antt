@@ -8,7 +8,7 @@ use lib.Dec.{eqb}
 use lib.ListN.{length}
 use lib.Ieee.{Float, nan}
 use Rattle.loops.specs.Figures.{at}
-use Rattle.loops.specs.Verdict.{holds, verdict}
+use Rattle.loops.specs.Verdict.{fact, verdict}
 use Rattle.loops.proofs.Bools.{both, unequal}
 use Rattle.loops.proofs.Tab.{length_tab, get_tab}
 use Rattle.loops.proofs.Verdicts.{first_that_fails}
@@ -63,8 +63,8 @@ module _ (t : Tables) where
     length_refused e = go x fits e ex refl
       where
         go : (u v : Bool) → (u && v) ≡ false → u ≡ lengths_ok given → v ≡ fits → Err Length ≡ check_of fits given target
-        go u false q f g = first_that_fails [] (holds fits Length) (case_tests given target) Length tt (sym g, refl)
-        go false true q f g = first_that_fails (holds fits Length ∷ []) (holds (lengths_ok given) Length) (tables_tests given target) Length (sym g, tt) (sym f, refl)
+        go u false q f g = first_that_fails [] (fact fits Length) (case_tests given target) Length tt (sym g, refl)
+        go false true q f g = first_that_fails (fact fits Length ∷ []) (fact (lengths_ok given) Length) (tables_tests given target) Length (sym g, tt) (sym f, refl)
         go true true q f g = absurd (unequal cc)
 
     module _ (passed : (x && fits) ≡ true) where

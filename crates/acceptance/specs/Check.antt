@@ -1,7 +1,7 @@
 -- What the contracts cite: document 01's refusals 1 to 7 by the columns that each test reads, and all of them in order.
 use Rattle.std.specs.Prelude.{ℕ, Bool, List, ◌∷◌, eqb, length, Float, Result, ◌+◌, ◌*◌, ◌≡◌}
 use Rattle.std.specs.List.{list_all}
-use Rattle.loops.specs.Verdict.{Test, holds, verdict}
+use Rattle.loops.specs.Verdict.{Test, fact, verdict}
 use Rattle.refusal.specs.declared.Refusal.{Refusal}
 use Rattle.refusal.specs.declared.Refusal.TheVariants.{Length}
 use Rattle.mode.specs.declared.PlanMode.TheVariants.{Observe}
@@ -74,7 +74,7 @@ sized rows = list_all (λ column. eqb column rows)
 
 -- ---- all, in order, of a call. `fits`: the slices that the caller itself is lent have their lengths
 unfoldable pub call_tests : Bool → Case → ℕ → List (Test Refusal)
-call_tests fits c target = holds fits Length ∷ case_tests c target
+call_tests fits c target = fact fits Length ∷ case_tests c target
 
 abbrev pub check_of : Bool → Case → ℕ → Result (Unit {0}) Refusal
 check_of fits c target = verdict (call_tests fits c target)

@@ -3,7 +3,7 @@ use Rattle.std.specs.Prelude.{ℕ, ◌*◌, Bool, true, false, ◌&&◌, List, [
 use Rattle.loops.specs.Bounds.{most_buses, most_corridors}
 use Rattle.loops.specs.Figures.{at, finite}
 use Rattle.loops.specs.Loops.{first}
-use Rattle.loops.specs.Verdict.{Test, holds, each, verdict}
+use Rattle.loops.specs.Verdict.{Test, fact, each_row, verdict}
 use Rattle.refusal.specs.Reply.{Reply, reply_of}
 use Rattle.refusal.specs.declared.Refusal.{Refusal}
 use Rattle.refusal.specs.declared.Refusal.TheVariants.{Length, Count, Edge, Ground, NotFinite}
@@ -47,10 +47,10 @@ ground_ok n grounds g = ltb (get_or grounds g 0) n
 
 unfoldable pub tests_of : Request → ℕ → ℕ → List (Test Refusal)
 tests_of q result work =
-    holds (lengths_ok q result work) Length
-    ∷ holds (counts_ok q.n q.m q.k) Count
-    ∷ each (edge_ok q.n q.edges.from q.edges.to) Edge q.m
-    ∷ each (ground_ok q.n q.grounds) Ground q.k
+    fact (lengths_ok q result work) Length
+    ∷ fact (counts_ok q.n q.m q.k) Count
+    ∷ each_row (edge_ok q.n q.edges.from q.edges.to) Edge q.m
+    ∷ each_row (ground_ok q.n q.grounds) Ground q.k
     ∷ []
 
 abbrev pub check_of : Request → ℕ → ℕ → Result (Unit {0}) Refusal

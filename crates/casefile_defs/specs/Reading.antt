@@ -1,7 +1,7 @@
 -- Document 01's "Case reading": the header that a file is read as, or the first refusal, record by record.
 use Rattle.std.specs.Prelude.{ℕ, ◌+◌, ◌-◌, ◌*◌, ◌/◌, ◌%◌, ◌≤◌, min, Bool, true, false, ◌&&◌, cond, List, [], ◌∷◌, leb, ltb, eqb, length, get_or, Err, Ok, Result}
 use Rattle.loops.specs.Loops.{iter, first}
-use Rattle.loops.specs.Verdict.{Test, holds, verdict}
+use Rattle.loops.specs.Verdict.{Test, fact, verdict}
 use Rattle.refusal.specs.declared.Refusal.{Refusal}
 use Rattle.refusal.specs.declared.Refusal.TheVariants.{Count, FileLength, Cut, Mark, Code, Trailing}
 use Rattle.mode.specs.Number.{mode_number}
@@ -19,9 +19,9 @@ use Rattle.casefile_defs.specs.declared.CaseRead.{CaseRead}
 -- what is asked of record r of the file, of kind k, at a place: 14, 15, 16
 unfoldable pub record_tests : Kind → List ℕ → ℕ → ℕ → List (Test Refusal)
 record_tests k s r at =
-    holds (leb (at + size_of k) (length s)) (Cut r)
-    ∷ holds (marked k s at) (Mark r)
-    ∷ holds (codes_ok k s at) (Code r)
+    fact (leb (at + size_of k) (length s)) (Cut r)
+    ∷ fact (marked k s at) (Mark r)
+    ∷ fact (codes_ok k s at) (Code r)
     ∷ []
 
 -- past it, or what is wrong with it

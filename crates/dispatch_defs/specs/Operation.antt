@@ -3,7 +3,7 @@
 use Rattle.std.specs.Prelude.{ℕ, Bool, true, false, ◌&&◌, List, [], ◌∷◌, ltb, leb, eqb, length, Float, Err, Ok, Result}
 use Rattle.loops.specs.Bounds.{most_generators}
 use Rattle.loops.specs.Figures.{nought, billion, inside}
-use Rattle.loops.specs.Verdict.{Test, holds, each, verdict}
+use Rattle.loops.specs.Verdict.{Test, fact, each_row, verdict}
 use Rattle.refusal.specs.Reply.{Reply, reply_of, no_refusal}
 use Rattle.refusal.specs.declared.Refusal.TheVariants.{Length, Count, Generator, Demand, Cost}
 use Rattle.dispatch_defs.specs.Units.{Units, count, unit_ok_at}
@@ -22,10 +22,10 @@ demand_ok demand = inside nought most_demand demand
 
 unfoldable pub tests_of : ℕ → Units → Float → ℕ → List (Test Refusal)
 tests_of units u demand places =
-    holds (lengths_ok units (length u.pmin) (length u.pmax) (length u.c1) (length u.c2) places) Length
-    ∷ holds (leb units most_generators) Count
-    ∷ each (unit_ok_at u) Generator (count u)
-    ∷ holds (demand_ok demand) Demand
+    fact (lengths_ok units (length u.pmin) (length u.pmax) (length u.c1) (length u.c2) places) Length
+    ∷ fact (leb units most_generators) Count
+    ∷ each_row (unit_ok_at u) Generator (count u)
+    ∷ fact (demand_ok demand) Demand
     ∷ []
 
 abbrev pub check_of : ℕ → Units → Float → ℕ → Result (Unit {0}) Refusal

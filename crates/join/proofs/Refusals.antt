@@ -6,7 +6,7 @@ use mathlib.Core.Path.{◌≡◌, sym, ap, ◌∙◌}
 use native.Mathlib.Omega.{arith}
 use borrow.Author.Tests.{leb-true}
 use lib.ListN.{length}
-use Rattle.loops.specs.Verdict.{holds, verdict}
+use Rattle.loops.specs.Verdict.{fact, verdict}
 use Rattle.loops.proofs.Bools.{both}
 use Rattle.loops.proofs.Chains.{only, err_not_ok}
 use Rattle.loops.proofs.Verdicts.{or_else, joined}
@@ -31,10 +31,10 @@ use Rattle.refusal.specs.Reply.{no_refusal}
 module _ (fits : Bool) (c : Case) (t : ℕ) (d : Case) (u : ℕ) where
   -- by what is said of each case, and the two last tests
   pub answered : (x y : Result (Unit {0}) Refusal) (s l : Bool) → x ≡ one_case.check_of fits c t → y ≡ one_case.check_of true d u → s ≡ sums_ok c t d u → l ≡ alike c d
-      → or_else x (or_else y (verdict (holds s Count ∷ holds l Districts ∷ []))) ≡ check_of fits c t d u
+      → or_else x (or_else y (verdict (fact s Count ∷ fact l Districts ∷ []))) ≡ check_of fits c t d u
   unfolding tests_of call_tests join_tests
   answered x y s l e f g h =
-      let last = holds (sums_ok c t d u) Count ∷ holds (alike c d) Districts ∷ [] in
+      let last = fact (sums_ok c t d u) Count ∷ fact (alike c d) Districts ∷ [] in
       rw (e, f, g, h, joined (call_tests fits c t) (case_tests d u ++ last), joined (case_tests d u) last)
 
   -- ---- what is known by the answer

@@ -1,6 +1,6 @@
 -- What the contracts of join's functions cite: the tests that read two headers, the joined header, and the refusals in order.
 use Rattle.std.specs.Prelude.{ℕ, ◌+◌, ◌-◌, ◌*◌, ◌^◌, ◌<◌, ◌≤◌, Bool, cond, ◌&&◌, List, ◌∷◌, ◌≡◌, leb, ltb, eqb, length, get_or, Result}
-use Rattle.loops.specs.Verdict.{Test, holds, verdict}
+use Rattle.loops.specs.Verdict.{Test, fact, verdict}
 use Rattle.refusal.specs.declared.Refusal.TheVariants.{Length}
 use Rattle.mode.specs.Number.{mode_number}
 use Rattle.sheets.specs.Sheet.{row_figures}
@@ -66,7 +66,7 @@ headers_of h k = record {
 
 -- the refusals in order; `fits`: the joined tables have their sizes
 unfoldable pub tests_of : Bool → Case → ℕ → Case → ℕ → List (Test Refusal)
-tests_of fits c t d u = holds fits Length ∷ join_tests c t d u
+tests_of fits c t d u = fact fits Length ∷ join_tests c t d u
 
 abbrev pub check_of : Bool → Case → ℕ → Case → ℕ → Result (Unit {0}) Refusal
 check_of fits c t d u = verdict (tests_of fits c t d u)

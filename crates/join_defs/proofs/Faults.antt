@@ -4,7 +4,7 @@ use mathlib.Core.Bool.{true}
 use mathlib.Core.List.{[], ◌∷◌}
 use mathlib.Core.Path.{◌≡◌, refl, sym, ◌∙◌}
 use Rattle.std.specs.Prelude.{Err, Ok, Result}
-use Rattle.loops.specs.Verdict.{holds}
+use Rattle.loops.specs.Verdict.{fact}
 use Rattle.loops.proofs.Chains.{err_not_ok}
 use Rattle.loops.proofs.Verdicts.{or_else, joined, passes_all}
 use Rattle.refusal.specs.Reply.{no_refusal}
@@ -29,5 +29,5 @@ unfolding join_tests
 joinable c d t u h =
     let p = neither (case_check c t) _ (sym (joined (case_tests c t) _) ∙ h) in
     let q = neither (case_check d u) _ (sym (joined (case_tests d u) _) ∙ p.1) in
-    let a = passes_all (holds (sums_ok c t d u) Count ∷ holds (alike c d) Districts ∷ []) q.1 in
+    let a = passes_all (fact (sums_ok c t d u) Count ∷ fact (alike c d) Districts ∷ []) q.1 in
     record { first = p.0; second = q.0; sums = a.0; same = a.1.0 }

@@ -3,7 +3,7 @@ use Rattle.std.specs.Prelude.{ℕ, ◌+◌, ◌-◌, Bool, cond, ◌&&◌, List,
 use Rattle.std.specs.Float.Ieee.{eq}
 use Rattle.loops.specs.Figures.{at}
 use Rattle.loops.specs.Loops.{first}
-use Rattle.loops.specs.Verdict.{Test, holds, verdict}
+use Rattle.loops.specs.Verdict.{Test, fact, verdict}
 use Rattle.refusal.specs.declared.Refusal.{Refusal}
 use Rattle.refusal.specs.declared.Refusal.TheVariants.{Count, Districts}
 use Rattle.mode.specs.Number.{mode_number}
@@ -45,7 +45,7 @@ alike c d = eqb (mode_number c.mode) (mode_number d.mode) && (eqb c.requested d.
 
 -- ---- in order: 1 to 7 of the first case, then of the second, each with its own indices; then 2 and 24
 unfoldable pub join_tests : Case → ℕ → Case → ℕ → List (Test Refusal)
-join_tests c t d u = case_tests c t ++ (case_tests d u ++ (holds (sums_ok c t d u) Count ∷ holds (alike c d) Districts ∷ []))
+join_tests c t d u = case_tests c t ++ (case_tests d u ++ (fact (sums_ok c t d u) Count ∷ fact (alike c d) Districts ∷ []))
 
 abbrev pub join_check : Case → ℕ → Case → ℕ → Result (Unit {0}) Refusal
 join_check c t d u = verdict (join_tests c t d u)

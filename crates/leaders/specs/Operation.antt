@@ -1,7 +1,7 @@
 -- Document 01, refusals of *Leaders*: 1 slice length; 2 count; 6 an end not below the buses, or equal ends. Slices keep their contents.
 use Rattle.std.specs.Prelude.{ℕ, ◌<◌, Bool, not, ◌&&◌, List, [], ◌∷◌, ◌≡◌, ltb, leb, eqb, length, get_or, Err, Ok, Result}
 use Rattle.loops.specs.Bounds.{most_buses, most_corridors}
-use Rattle.loops.specs.Verdict.{Test, holds, each, verdict}
+use Rattle.loops.specs.Verdict.{Test, fact, each_row, verdict}
 use Rattle.refusal.specs.Reply.{Reply, reply_of, no_refusal}
 use Rattle.refusal.specs.declared.Refusal.TheVariants.{Length, Count, Corridor}
 use Rattle.leaders.specs.Leaders.{leaders_of}
@@ -23,9 +23,9 @@ corridor_ok_at buses a b k = corridor_ok buses (get_or a k 0) (get_or b k 0)
 
 unfoldable pub tests_of : ℕ → ℕ → List ℕ → List ℕ → ℕ → List (Test Refusal)
 tests_of buses corridors a b places =
-    holds (lengths_ok buses corridors (length a) (length b) places) Length
-    ∷ holds (counts_ok buses corridors) Count
-    ∷ each (corridor_ok_at buses a b) Corridor (length a)
+    fact (lengths_ok buses corridors (length a) (length b) places) Length
+    ∷ fact (counts_ok buses corridors) Count
+    ∷ each_row (corridor_ok_at buses a b) Corridor (length a)
     ∷ []
 
 abbrev pub check_of : ℕ → ℕ → List ℕ → List ℕ → ℕ → Result (Unit {0}) Refusal

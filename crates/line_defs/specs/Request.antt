@@ -3,7 +3,7 @@ use Rattle.std.specs.Prelude.{ℕ, ◌+◌, ◌<◌, Bool, true, ◌&&◌, ◌||
 use Rattle.std.specs.Float.{binary64}
 use Rattle.std.specs.Float.Ieee.{of_bits, round, lt, le}
 use Rattle.loops.specs.Figures.{at, plus, nought, ten_thousand, millionth, inside, decimal}
-use Rattle.loops.specs.Verdict.{Test, holds, each, verdict}
+use Rattle.loops.specs.Verdict.{Test, fact, each_row, verdict}
 use Rattle.refusal.specs.declared.Refusal.{Refusal}
 use Rattle.refusal.specs.declared.Refusal.TheVariants.{Length, Count, Level, Corridor, Spread}
 use Rattle.sheets.specs.Request.{counts_ok}
@@ -41,11 +41,11 @@ spread_ok spread k = inside quarter four (at spread k)
 -- ---- the tests in order
 unfoldable pub tests_of : ℕ → ℕ → List Float → List Float → List Float → ℕ → List (Test Refusal)
 tests_of levels corridors ladder km spread sheet =
-    holds (lengths_ok levels corridors (length ladder) (length km) (length spread) sheet) Length
-    ∷ holds (counts_ok corridors levels) Count
-    ∷ each (level_ok ladder) Level (length ladder)
-    ∷ each (length_ok km) Corridor (length km)
-    ∷ each (spread_ok spread) Spread (length spread)
+    fact (lengths_ok levels corridors (length ladder) (length km) (length spread) sheet) Length
+    ∷ fact (counts_ok corridors levels) Count
+    ∷ each_row (level_ok ladder) Level (length ladder)
+    ∷ each_row (length_ok km) Corridor (length km)
+    ∷ each_row (spread_ok spread) Spread (length spread)
     ∷ []
 
 abbrev pub check_of : ℕ → ℕ → List Float → List Float → List Float → ℕ → Result (Unit {0}) Refusal

@@ -3,12 +3,12 @@ use Rattle.std.specs.Prelude.{ℕ, Bool, cond, List, [], ◌∷◌, ltb, Err, Ok
 use Rattle.loops.specs.Loops.{first}
 
 pub data Test (E : Type 0) : Type 0 where
-  -- a fact
-  holds : Bool → E → Test E
-  -- one of each index below a count; refused with the lowest at which it fails
-  each : (ℕ → Bool) → (ℕ → E) → ℕ → Test E
+  -- whether something is so
+  fact : Bool → E → Test E
+  -- the same of each row of a table, by its index, for so many rows; refused with the lowest row where it is not
+  each_row : (ℕ → Bool) → (ℕ → E) → ℕ → Test E
 
 abbrev pub verdict : {E : Type 0} → List (Test E) → Result (Unit {0}) E
 verdict [] = Ok tt
-verdict (holds ok f ∷ l) = cond ok (verdict l) (Err f)
-verdict (each ok f n ∷ l) = cond (ltb (first ok n 0) n) (Err (f (first ok n 0))) (verdict l)
+verdict (fact ok f ∷ l) = cond ok (verdict l) (Err f)
+verdict (each_row ok f n ∷ l) = cond (ltb (first ok n 0) n) (Err (f (first ok n 0))) (verdict l)

@@ -2,7 +2,7 @@
 use Rattle.std.specs.Prelude.{◌≡◌, List, [], ◌∷◌, Bool, true, not, ◌&&◌, ℕ, ◌≤◌, ◌<◌, eqb, leb, ltb, length, get_or, Float, Result}
 pub use Rattle.loops.specs.Bounds.{most_buses, most_corridors, most_generators}
 use Rattle.loops.specs.Figures.{at, inside, nought, ten_thousand}
-use Rattle.loops.specs.Verdict.{Test, holds, each, verdict}
+use Rattle.loops.specs.Verdict.{Test, fact, each_row, verdict}
 use Rattle.loads.specs.Load.{weighed, loads_of, load_ok}
 use Rattle.refusal.specs.declared.Refusal.{Refusal}
 use Rattle.refusal.specs.declared.Refusal.TheVariants.{Length, Count, Bus, Generator, Corridor}
@@ -53,11 +53,11 @@ corridor_at n a b km c = corridor_ok n (get_or a c 0) (get_or b c 0) (at km c)
 -- the tests in order
 unfoldable pub tests_of : Request → ℕ → ℕ → List (Test Refusal)
 tests_of k buses mvars =
-    holds (lengths_ok k buses mvars) Length
-    ∷ holds (counts_ok k.n k.m k.g) Count
-    ∷ each (load_at k.reading k.weight) Bus k.n
-    ∷ each (λ i. bus_ok k.n (get_or k.generators i 0)) Generator k.g
-    ∷ each (corridor_at k.n k.a k.b k.km) Corridor k.m
+    fact (lengths_ok k buses mvars) Length
+    ∷ fact (counts_ok k.n k.m k.g) Count
+    ∷ each_row (load_at k.reading k.weight) Bus k.n
+    ∷ each_row (λ i. bus_ok k.n (get_or k.generators i 0)) Generator k.g
+    ∷ each_row (corridor_at k.n k.a k.b k.km) Corridor k.m
     ∷ []
 
 abbrev pub check_of : Request → ℕ → ℕ → Result (Unit {0}) Refusal

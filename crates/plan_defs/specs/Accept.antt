@@ -3,7 +3,7 @@
 use Rattle.std.specs.Prelude.{ℕ, ◌+◌, ◌*◌, Bool, ◌&&◌, ◌||◌, List, [], ◌∷◌, leb, ltb, eqb, length, get_or, Result}
 use Rattle.std.specs.Float.Ieee.{eq, lt, le}
 use Rattle.loops.specs.Figures.{plus, at, nought, one, half, ten_thousand, million, thousandth, finite, inside}
-use Rattle.loops.specs.Verdict.{Test, holds, each, verdict}
+use Rattle.loops.specs.Verdict.{Test, fact, each_row, verdict}
 use Rattle.sheets.specs.Sheet.{row_figures, line_corridor, line_level}
 use Rattle.loads.specs.Load.{load_ok}
 use Rattle.refusal.specs.declared.Refusal.{Refusal}
@@ -82,16 +82,16 @@ row_ok c i = row_sound (row_at c (line_corridor (levels c) i) (line_level (level
 -- ---- in order; of a table's rows the lowest that is faulty
 unfoldable pub tables_tests : Case → ℕ → List (Test Refusal)
 tables_tests c target =
-    holds (counts_ok c target) Count
-    ∷ each (level_ok c) Level (levels c)
-    ∷ each (bus_ok c) Bus c.buses
-    ∷ each (generator_ok c) Generator c.generators
-    ∷ each (corridor_sound c) Corridor c.corridors
-    ∷ each (row_ok c) SheetRow (c.corridors * levels c)
+    fact (counts_ok c target) Count
+    ∷ each_row (level_ok c) Level (levels c)
+    ∷ each_row (bus_ok c) Bus c.buses
+    ∷ each_row (generator_ok c) Generator c.generators
+    ∷ each_row (corridor_sound c) Corridor c.corridors
+    ∷ each_row (row_ok c) SheetRow (c.corridors * levels c)
     ∷ []
 
 unfoldable pub case_tests : Case → ℕ → List (Test Refusal)
-case_tests c target = holds (lengths_ok c) Length ∷ tables_tests c target
+case_tests c target = fact (lengths_ok c) Length ∷ tables_tests c target
 
 abbrev pub case_check : Case → ℕ → Result (Unit {0}) Refusal
 case_check c target = verdict (case_tests c target)

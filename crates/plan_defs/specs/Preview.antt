@@ -4,7 +4,7 @@
 -- names none, or one again).
 use Rattle.std.specs.Prelude.{ℕ, Bool, not, ◌&&◌, List, [], ◌∷◌, leb, ltb, eqb, length, get_or, Err, Ok, Result}
 use Rattle.loops.specs.Loops.{first}
-use Rattle.loops.specs.Verdict.{Test, holds, each, verdict}
+use Rattle.loops.specs.Verdict.{Test, fact, each_row, verdict}
 use Rattle.mode.specs.declared.PlanMode.{PlanMode}
 use Rattle.refusal.specs.Reply.{Reply, reply_of, no_refusal}
 use Rattle.refusal.specs.declared.Refusal.{Refusal}
@@ -49,11 +49,11 @@ place_ok p j = ltb (get_or p.order j 0) p.corridors && first_named p.order j
 -- ---- all of them, in order
 unfoldable pub preview_tests : Kept → ℕ → ℕ → List (Test Refusal)
 preview_tests p target places =
-    holds (lengths_ok p places) Length
-    ∷ holds (counts_ok p target) Count
-    ∷ holds (promote p.mode) Mode
-    ∷ each (count_ok p) Corridor p.corridors
-    ∷ each (place_ok p) Order p.corridors
+    fact (lengths_ok p places) Length
+    ∷ fact (counts_ok p target) Count
+    ∷ fact (promote p.mode) Mode
+    ∷ each_row (count_ok p) Corridor p.corridors
+    ∷ each_row (place_ok p) Order p.corridors
     ∷ []
 
 abbrev pub preview_check : Kept → ℕ → ℕ → Result (Unit {0}) Refusal

@@ -3,7 +3,7 @@
 use Rattle.std.specs.Prelude.{ℕ, ◌+◌, ◌%◌, ◌^◌, ◌≤◌, min, max, Bool, cond, ◌&&◌, ◌||◌, List, [], ◌∷◌, ◌≡◌, eqb, leb, ltb, length, get_or, replicate, Err, Ok, Result}
 pub use Rattle.loops.specs.Bounds.{most_corridors}
 use Rattle.loops.specs.Loops.{filled}
-use Rattle.loops.specs.Verdict.{Test, holds, verdict}
+use Rattle.loops.specs.Verdict.{Test, fact, verdict}
 use Rattle.refusal.specs.Reply.{Reply, reply_of, no_refusal}
 use Rattle.refusal.specs.declared.Refusal.TheVariants.{Length, Count, Uneven, SeasonFull}
 use Rattle.plan_defs.specs.declared.CorridorPlan.{CorridorPlan}
@@ -46,10 +46,10 @@ even_with s corridors = eqb s.taken 0 || eqb corridors s.corridors
 -- 1, 2, 19, 20, by the corridors that the plan is said to have and the places of its circuits
 unfoldable pub tests_of : Season → ℕ → ℕ → List (Test Refusal)
 tests_of s corridors places =
-    holds (eqb places corridors) Length
-    ∷ holds (leb corridors most_corridors) Count
-    ∷ holds (even_with s corridors) Uneven
-    ∷ holds (ltb s.taken most_plans) SeasonFull
+    fact (eqb places corridors) Length
+    ∷ fact (leb corridors most_corridors) Count
+    ∷ fact (even_with s corridors) Uneven
+    ∷ fact (ltb s.taken most_plans) SeasonFull
     ∷ []
 
 abbrev pub check_of : Season → ℕ → ℕ → Result (Unit {0}) Refusal

@@ -3,7 +3,7 @@ use Rattle.std.specs.Prelude.{ℕ, ◌*◌, Bool, ◌&&◌, List, [], ◌∷◌,
 use Rattle.refusal.specs.Reply.{Reply, reply_of, no_refusal}
 use Rattle.refusal.specs.declared.Refusal.TheVariants.{Length, Count}
 use Rattle.loops.specs.Bounds.{most_corridors, most_levels}
-use Rattle.loops.specs.Verdict.{Test, holds, verdict}
+use Rattle.loops.specs.Verdict.{Test, fact, verdict}
 use Rattle.sheets.specs.Sheet.{row_figures, by_level}
 use Rattle.refusal.specs.declared.Refusal.{Refusal}
 
@@ -16,7 +16,7 @@ abbrev pub counts_ok : ℕ → ℕ → Bool
 counts_ok m n = leb 1 n && leb n most_levels && leb m most_corridors
 
 unfoldable pub tests_of : ℕ → ℕ → ℕ → ℕ → List (Test Refusal)
-tests_of m n from to = holds (lengths_ok m n from to) Length ∷ holds (counts_ok m n) Count ∷ []
+tests_of m n from to = fact (lengths_ok m n from to) Length ∷ fact (counts_ok m n) Count ∷ []
 
 abbrev pub check_of : ℕ → ℕ → ℕ → ℕ → Result (Unit {0}) Refusal
 check_of m n from to = verdict (tests_of m n from to)

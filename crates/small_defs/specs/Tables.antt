@@ -4,7 +4,7 @@ use Rattle.std.specs.Float.{binary64}
 use Rattle.std.specs.Float.Ieee.{of_bits, round}
 use Rattle.loops.specs.Figures.{nought, half, one, hundred, decimal}
 use Rattle.loops.specs.Loops.{tab}
-use Rattle.loops.specs.Verdict.{Test, holds, verdict}
+use Rattle.loops.specs.Verdict.{Test, fact, verdict}
 use Rattle.refusal.specs.Reply.{Reply}
 use Rattle.refusal.specs.declared.Refusal.TheVariants.{Length, Place}
 use Rattle.mode.specs.declared.PlanMode.TheVariants.{Observe}
@@ -93,7 +93,7 @@ abbrev pub made : Result Header Refusal → Places → Made
 made r p = record { reply = reply_of r; places = p }
 
 unfoldable pub tests_of : ℕ → Places → List (Test Refusal)
-tests_of i p = holds (sizes_ok p) Length ∷ holds (ltb i all_places) Place ∷ []
+tests_of i p = fact (sizes_ok p) Length ∷ fact (ltb i all_places) Place ∷ []
 
 abbrev pub made_by : Result (Unit {0}) Refusal → ℕ → Places → Made
 made_by (Ok tt) i p = made (Ok (header_at i)) (tables_at i)

@@ -5,8 +5,8 @@ use mathlib.Core.Path.{◌≡◌, refl, sym, ◌∙◌}
 use Rattle.loops.proofs.Verdicts.{passes_all, where_all_pass}
 use Rattle.mode.specs.declared.PlanMode.TheVariants.{Observe}
 use Rattle.plan_defs.specs.Case.{Case, case_with, row_at}
-use Rattle.plan_defs.specs.Accept.{lengths_ok, counts_ok, level_ok, bus_ok, generator_ok, corridor_sound, row_ok, tables_tests, case_tests, case_check}
-use Rattle.acceptance.specs.Check.{call_tests, check_of}
+use Rattle.plan_defs.specs.Accept.{lengths_ok, counts_ok, level_ok, bus_ok, generator_ok, corridor_sound, row_ok, tables_tests, case_tests, call_tests, case_check}
+use Rattle.acceptance.specs.Check.{check_of}
 use Rattle.refusal.specs.Reply.{no_refusal}
 
 -- a case as it is checked

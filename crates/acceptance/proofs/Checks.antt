@@ -18,10 +18,10 @@ use Rattle.refusal.specs.declared.Refusal.{Refusal}
 use Rattle.refusal.specs.declared.Refusal.TheVariants.{Length}
 use Rattle.sheets.specs.Sheet.{row_figures, line_place, line_corridor, line_level}
 use Rattle.plan_defs.specs.Case.{Case, row_from, rows_of}
-use Rattle.plan_defs.specs.Accept.{lengths_ok, tables_tests, case_tests}
+use Rattle.plan_defs.specs.Accept.{lengths_ok, tables_tests, case_tests, call_tests}
 use Rattle.plan_defs.proofs.Rows.{row_from_lem}
 use Rattle.plan_defs.proofs.Accepted.{columns_of_lem}
-use Rattle.acceptance.specs.Check.{Tables, tabled, Columns, sized, call_tests, check_of}
+use Rattle.acceptance.specs.Check.{Tables, tabled, Columns, sized, check_of}
 use Rattle.std.specs.Prelude.{Err, Result}
 
 -- ---- a bus's load is the product of its own figures

@@ -1,13 +1,12 @@
 -- What the contracts cite: document 01's refusals 1 to 7 by the columns that each test reads, and all of them in order.
-use Rattle.std.specs.Prelude.{ℕ, Bool, List, ◌∷◌, eqb, length, Float, Result, ◌+◌, ◌*◌, ◌≡◌}
+use Rattle.std.specs.Prelude.{ℕ, Bool, List, eqb, length, Float, Result, ◌+◌, ◌*◌, ◌≡◌}
 use Rattle.std.specs.List.{list_all}
-use Rattle.loops.specs.Verdict.{Test, fact, verdict}
+use Rattle.loops.specs.Verdict.{verdict}
 use Rattle.refusal.specs.declared.Refusal.{Refusal}
-use Rattle.refusal.specs.declared.Refusal.TheVariants.{Length}
 use Rattle.mode.specs.declared.PlanMode.TheVariants.{Observe}
 use Rattle.sheets.specs.Sheet.{row_figures}
 use Rattle.plan_defs.specs.Case.{Case, surveyed}
-use Rattle.plan_defs.specs.Accept.{case_tests}
+use Rattle.plan_defs.specs.Accept.{call_tests}
 
 -- ---- a case of all tables, which the tests read in any mode
 abbrev pub tables_for : ℕ → ℕ → ℕ → ℕ → ℕ → List Float → List ℕ → List Float → List Float → List ℕ → List ℕ → List Float → List Float → List Float → List Float
@@ -72,9 +71,6 @@ pub record Columns (t : Tables) : Type 0 where
 abbrev pub sized : ℕ → List ℕ → Bool
 sized rows = list_all (λ column. eqb column rows)
 
--- ---- all, in order, of a call. `fits`: the slices that the caller itself is lent have their lengths
-unfoldable pub call_tests : Bool → Case → ℕ → List (Test Refusal)
-call_tests fits c target = fact fits Length ∷ case_tests c target
-
+-- ---- all, in order
 abbrev pub check_of : Bool → Case → ℕ → Result (Unit {0}) Refusal
 check_of fits c target = verdict (call_tests fits c target)

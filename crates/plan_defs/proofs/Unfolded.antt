@@ -93,7 +93,7 @@ unfolding cases.from_of cases.to_of cases.kv_high cases.rows_of cases.row_at
 ends_and_rows = tt
 
 acceptance : Unit {0}
-unfolding accept.lengths_ok accept.counts_ok accept.level_ok accept.bus_ok accept.generator_ok accept.corridor_sound accept.row_ok accept.tables_tests accept.case_tests
+unfolding accept.lengths_ok accept.counts_ok accept.level_ok accept.bus_ok accept.generator_ok accept.corridor_sound accept.row_ok accept.tables_tests accept.case_tests accept.call_tests
 acceptance = tt
 
 component_dispatch : Unit {0}

@@ -93,5 +93,9 @@ tables_tests c target =
 unfoldable pub case_tests : Case → ℕ → List (Test Refusal)
 case_tests c target = fact (lengths_ok c) Length ∷ tables_tests c target
 
+-- of a call: `fits`, the slices that it is lent beside the case have their lengths
+unfoldable pub call_tests : Bool → Case → ℕ → List (Test Refusal)
+call_tests fits c target = fact fits Length ∷ case_tests c target
+
 abbrev pub case_check : Case → ℕ → Result (Unit {0}) Refusal
 case_check c target = verdict (case_tests c target)

@@ -2,11 +2,12 @@
 -- 1 to 7 touch nothing; after 8 or 9 all result and work places are zero; after an answer, work is zero.
 use Rattle.std.specs.Prelude.{◌≡◌, ℕ, ◌+◌, ◌-◌, ◌*◌, Bool, true, false, ◌&&◌, List, map, ◌++◌, eqb, length, replicate, Float, Err, Ok, Result}
 use Rattle.loops.specs.Figures.{nought}
+use Rattle.loops.specs.Verdict.{verdict}
 use Rattle.refusal.specs.Reply.{Reply, reply_of}
-use Rattle.refusal.specs.declared.Refusal.TheVariants.{Length}
 use Rattle.plan_defs.specs.Constants.{work_rows}
 use Rattle.plan_defs.specs.Case.{Case, promote}
-use Rattle.plan_defs.specs.Plan.{Plan, Ending, unaccepted, unanswered, planned, ending_of}
+use Rattle.plan_defs.specs.Accept.{call_tests}
+use Rattle.plan_defs.specs.Plan.{Plan, Ending, unaccepted, unanswered, planned, ending_by}
 use Rattle.plan_defs.specs.declared.CorridorPlan.{CorridorPlan}
 use Rattle.refusal.specs.declared.Refusal.{Refusal}
 
@@ -138,10 +139,5 @@ outcome_by (unaccepted f) c s = outcome (Err f) s
 outcome_by (unanswered f) c s = outcome (Err f) (cleared c)
 outcome_by (planned p) c s = outcome (Ok (summary p)) (held c p)
 
--- a slice of the wrong length is 1, before all else
-abbrev pub outcome_if : Bool → Case → ℕ → Slices → Outcome
-outcome_if true c target s = outcome_by (ending_of c target) c s
-outcome_if false c target s = outcome (Err Length) s
-
 unfoldable pub plan_corridors : Case → ℕ → Slices → Outcome
-plan_corridors c target s = outcome_if (slices_ok c s) c target s
+plan_corridors c target s = outcome_by (ending_by (verdict (call_tests (slices_ok c s) c target)) c target) c s

@@ -7,16 +7,22 @@ use borrow.Author.Tests.{eqb-true, eq-eqb}
 use lib.Dec.{eqb}
 use lib.ListN.{length, length-replicate}
 use Rattle.loops.specs.Figures.{nought}
+use Rattle.loops.specs.Verdict.{verdict}
 use Rattle.loops.proofs.Bools.{both, and_of}
 use Rattle.refusal.specs.Reply.{answered}
 use Rattle.dispatch_defs.proofs.Callers.{never}
 use Rattle.plan_defs.specs.Case.{Case}
-use Rattle.plan_defs.specs.Plan.{Ending, unaccepted, unanswered, planned, ending_of}
-use Rattle.plan_defs.specs.Outcome.{Slices, slices_ok, StageLengths, cleared, summary, outcome_by, outcome_if, plan_corridors, work_places}
+use Rattle.plan_defs.specs.Accept.{call_tests}
+use Rattle.plan_defs.specs.Plan.{Ending, unaccepted, unanswered, planned, ending_by, ending_of}
+use Rattle.plan_defs.specs.Outcome.{Slices, slices_ok, StageLengths, cleared, summary, Outcome, outcome_by, plan_corridors, work_places}
 use Rattle.plan_defs.specs.Demand.{AnswerTo}
 use Rattle.plan_defs.specs.declared.CorridorPlan.{CorridorPlan}
 use Rattle.plan_theorems.proofs.Dispatched.{Binary}
 use Rattle.plan_theorems.proofs.Demand.{demand_3, tallies}
+
+-- a call by whether its slices fit
+abbrev by_fit : Case → ℕ → Slices → Bool → Outcome
+by_fit c target s fits = outcome_by (ending_by (verdict (call_tests fits c target)) c target) c s
 
 -- ---- an answer is a defined plan, with demand 3
 module _ (c : Case) (target : ℕ) (binary : Binary c) (s : Slices) (x : CorridorPlan) where
@@ -28,10 +34,10 @@ module _ (c : Case) (target : ℕ) (binary : Binary c) (s : Slices) (x : Corrido
       record { plan = p; ending = h; said = (let z : summary p ≡ x = cc in sym z); lent = refl; demand = demand_3 c target binary p h; tally = tallies c target binary p h }
 
   pub answer_to_lem : (plan_corridors c target s).reply ≡ answered x → AnswerTo c target (plan_corridors c target s) x
-  unfolding plan_corridors
+  unfolding plan_corridors call_tests ending_of outcome_by
   answer_to_lem h = go (slices_ok c s) h
     where
-      go : (b : Bool) → (outcome_if b c target s).reply ≡ answered x → AnswerTo c target (outcome_if b c target s) x
+      go : (b : Bool) → (by_fit c target s b).reply ≡ answered x → AnswerTo c target (by_fit c target s b) x
       go true q = answer_by (ending_of c target) refl q
       go false q = absurd (never x _ _ (sym q))
 
@@ -113,5 +119,5 @@ cleared_lengths c =
     }
 
 pub untouched : (c : Case) (target : ℕ) (s : Slices) → slices_ok c s ≡ false → (plan_corridors c target s).lent ≡ s
-unfolding plan_corridors
-untouched c target s h = ap (λ (b : Bool). (outcome_if b c target s).lent) h
+unfolding plan_corridors call_tests outcome_by
+untouched c target s h = ap (λ (b : Bool). (by_fit c target s b).lent) h

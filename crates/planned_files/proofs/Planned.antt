@@ -6,6 +6,7 @@ use mathlib.Core.Path.{◌≡◌, sym, ap, subst, ◌∙◌}
 use lib.Ieee.{Float}
 use lib.ListN.{length, take, drop, replicate, length-replicate}
 use lib.Seq.{take_at}
+use Rattle.loops.specs.Verdict.{verdict}
 use Rattle.loops.specs.Figures.{nought}
 use Rattle.loops.proofs.Fronts.{front_replicate}
 use Rattle.casefile_defs.specs.Tables.{Places}
@@ -14,7 +15,9 @@ use Rattle.casefile_defs.specs.Bounds.{most_buses, most_corridors, most_generato
 use Rattle.case_defs.specs.Cases.{case_in}
 use Rattle.plan_defs.specs.Case.{Case}
 use Rattle.plan_defs.specs.Constants.{work_rows}
-use Rattle.plan_defs.specs.Outcome.{Slices, slices, work_places, cleared, outcome, outcome_if, plan_corridors}
+use Rattle.plan_defs.specs.Accept.{call_tests}
+use Rattle.plan_defs.specs.Plan.{ending_by, ending_of}
+use Rattle.plan_defs.specs.Outcome.{Slices, slices, work_places, cleared, outcome, outcome_by, plan_corridors}
 use Rattle.plan_theorems.proofs.Outcomes.{lengths_ok_lem, cleared_lengths}
 use Rattle.planned_files.specs.Files.{results, results_of, plan_of, filed, zeros}
 use Rattle.planned_files.specs.declared.file.Results.{Results}
@@ -65,12 +68,12 @@ lent_cleared c f =
     )
 
 as_planned : (c : Case) (target : ℕ) (l : Slices) (r : Result CorridorPlan Refusal) → Fits c → outcome r l ≡ plan_corridors c target (lent c) → results_of (outcome r l) ≡ plan_of c target
-unfolding plan_corridors
+unfolding plan_corridors call_tests ending_of
 as_planned c target l r f e =
     ap results_of
     (e
     ∙ ap (plan_corridors c target) (lent_cleared c f)
-    ∙ ap (λ (b : Bool). outcome_if b c target (cleared c)) (lengths_ok_lem c (cleared c) (cleared_lengths c)))
+    ∙ ap (λ (b : Bool). outcome_by (ending_by (verdict (call_tests b c target)) c target) c (cleared c)) (lengths_ok_lem c (cleared c) (cleared_lengths c)))
 
 -- ---- a file whose results were zeros before planning, by what came back in the first places of each array
 same_results : {a₀ a : List ℕ} {b₀ b c₀ c : List Float} {d₀ d e₀ e f₀ f : List ℕ} {g₀ g h₀ h : List Float} {i₀ i j₀ j : List ℕ} {k₀ k : List Float} (r : Result CorridorPlan Refusal)

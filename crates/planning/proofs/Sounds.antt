@@ -12,11 +12,11 @@ use Rattle.sheets.specs.Sheet.{row_figures}
 use Rattle.plan_defs.specs.Constants.{kv_tolerance, most_initial, most_cap}
 use Rattle.plan_defs.specs.Case.{Case, levels, kv_of, end_a, end_b, own_cap, Row, row_at}
 use Rattle.plan_defs.specs.Accept.{level_ok, generator_ok, corridor_sound, case_check}
-use Rattle.plan_defs.specs.Plan.{ending_on, ending_by, ending_of, plan_for}
-use Rattle.plan_defs.specs.Outcome.{Slices, slices_ok, Outcome, outcome, outcome_if, outcome_by, plan_corridors}
+use Rattle.plan_defs.specs.Plan.{ending_on, ending_by, plan_for}
+use Rattle.plan_defs.specs.Outcome.{Slices, slices_ok, Outcome, outcome, outcome_by, plan_corridors}
 use Rattle.plan_defs.proofs.Accepted.{Accepted, accepted, end_a_lem, end_b_lem, bus_below, unit_ok_lem, tier_below, load_inside, initial_few, cap_few, row_inside, row_sound_lem}
 use Rattle.plan_defs.proofs.Rows.{row_from_lem}
-use Rattle.acceptance.specs.Check.{call_tests, check_of}
+use Rattle.acceptance.specs.Check.{check_of}
 use Rattle.acceptance.proofs.Callers.{tables_of_lem, any_mode}
 use Rattle.planning.specs.Design.{Lines, rate_at}
 use Rattle.planning.specs.Lent.{places_ok}
@@ -152,16 +152,12 @@ module _ (c : Case) (target : ℕ) (s : Slices) where
   ended (Ok tt) = outcome_by (ending_on (plan_for c target)) c s
 
   pub ended_lem : (x : Result (Unit {0}) Refusal) → x ≡ check_of (slices_ok c s) (tables_of_lem c) target → ended x ≡ plan_corridors c target s
-  unfolding plan_corridors ending_of outcome_by call_tests
-  ended_lem x e = ap ended (e ∙ any_mode (slices_ok c s) c target) ∙ by_fit (slices_ok c s)
+  unfolding plan_corridors outcome_by
+  ended_lem x e = by_check x ∙ ap (λ (o : Result (Unit {0}) Refusal). outcome_by (ending_by o c target) c s) (e ∙ any_mode (slices_ok c s) c target)
     where
       by_check : (o : Result (Unit {0}) Refusal) → ended o ≡ outcome_by (ending_by o c target) c s
       by_check (Err f) = refl
       by_check (Ok tt) = refl
-
-      by_fit : (b : Bool) → ended (check_of b c target) ≡ outcome_if b c target s
-      by_fit true = by_check (case_check c target)
-      by_fit false = refl
 
 -- ---- the columns that a design reads, at levels on the ladder
 pub lines_of : (c : Case) (target : ℕ) → Sound c target → (sheet : List Float) → Laid c sheet → length sheet ≡ c.figures → (level : List ℕ) → length level ≡ c.buses

@@ -37,8 +37,8 @@ stiff_same build marks total total' hv hv' stiffening stiffening' wide stiffened
     ∙ ap (λ (n : ℕ). stiff build marks total' n stiffening wide stiffened) q
     ∙ ap (λ (n : ℕ). stiff build marks total' hv' n wide stiffened) r
 
--- a corridor with room has fewer than six
-pub room_below : (g : Limits) (own count total : ℕ) (r : Bool) → own ≤ most_cap → r ≡ room_for g own count total → r ≡ true → count < 6
+-- a corridor with room has fewer than the largest cap
+pub room_below : (g : Limits) (own count total : ℕ) (r : Bool) → own ≤ most_cap → r ≡ room_for g own count total → r ≡ true → count < most_cap
 room_below g own count total r h p e =
     let full = full_by own in
     let w : count < full = ltb-true count full (both (ltb count full) (ltb total g.branches) (sym p ∙ e)).0 in

@@ -1,4 +1,4 @@
--- The tests of a request in the order of document 01, each with what is refused where it fails; the verdict is the first that fails, or that all pass.
+-- The tests of a request or of a record in their order, each with what is refused where it fails; the verdict is the first that fails, or that all pass.
 use Rattle.std.specs.Prelude.{ℕ, Bool, cond, List, [], ◌∷◌, ltb, Err, Ok, Result}
 use Rattle.loops.specs.Loops.{first}
 

@@ -14,7 +14,7 @@ use Rattle.loops.specs.Loops.{first}
 use Rattle.loops.specs.Sorting.{occ}
 use Rattle.loops.proofs.Bools.{both, and_of, unequal}
 use Rattle.loops.proofs.Scan.{all_pass, pass_all}
-use Rattle.loops.proofs.Verdicts.{passes_all as all_passed, where_all_pass}
+use Rattle.loops.proofs.Verdicts.{passes_all, where_all_pass}
 use Rattle.refusal.specs.declared.Refusal.{Refusal}
 use Rattle.plan_defs.specs.Constants.{most_corridors, most_target, most_initial, most_cap}
 use Rattle.plan_defs.specs.Case.{Case, promote, lower_bound, full_at}
@@ -70,7 +70,7 @@ module _ (p : Kept) (target places : ℕ) where
   pub sound_of : preview_check p target places ≡ no_refusal → Sound p target places
   unfolding preview_tests lengths_ok
   sound_of e =
-      let x = all_passed (preview_tests p target places) e in
+      let x = passes_all (preview_tests p target places) e in
       let l = both (eqb (length p.before) p.corridors) _ x.0 in
       let m = both (eqb (length p.order) p.corridors) _ l.1 in
       let q = both (eqb (length p.cap) p.corridors) _ m.1 in
@@ -93,9 +93,9 @@ module _ (p : Kept) (target places : ℕ) where
         apart = λ i j h q. names_first p.order j (o j q).1 i h;
       }
 
-  pub passes_all : Sound p target places → preview_check p target places ≡ no_refusal
+  pub accepts : Sound p target places → preview_check p target places ≡ no_refusal
   unfolding preview_tests lengths_ok
-  passes_all s =
+  accepts s =
       let l = and_of (eq-eqb _ _ s.before) (and_of (eq-eqb _ _ s.order) (and_of (eq-eqb _ _ s.cap) (eq-eqb _ _ s.places_are))) in
       let n = and_of (le-leb _ _ s.few_corridors) (le-leb _ _ s.low_target) in
       let u = λ (k : ℕ) (h : k < p.corridors). and_of (le-leb _ _ (s.counts k h).0) (and_of (le-leb _ _ (s.counts k h).1) (le-leb _ _ (s.counts k h).2)) in
@@ -151,7 +151,7 @@ module _ (c : Case) (fills : promote c.mode ≡ true) where
       let ok = accepted c u (answer_of_lem c u q f).0 in
       let s = plan_sound t u p ok o.0 d o.1 in
       ap (λ (k : ℕ). preview_by (preview_check (kept_by_lem p) u k) (kept_by_lem p) u lent) n
-      ∙ ap (λ (x : Result (Unit {0}) Refusal). preview_by x (kept_by_lem p) u lent) (passes_all (kept_by_lem p) u c.corridors s)
+      ∙ ap (λ (x : Result (Unit {0}) Refusal). preview_by x (kept_by_lem p) u lent) (accepts (kept_by_lem p) u c.corridors s)
       ∙ ap (outcome no_refusal) (sym (refill c t u p q e f ∙ refill_is u p))
 
 -- the same of what two calls of planning answer and leave: in the terms of their promise

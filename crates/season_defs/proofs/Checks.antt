@@ -34,9 +34,9 @@ passed s corridors places e =
     let p = passes_all (tests_of s corridors places) e in
     record { size = eqb-true _ _ p.0; few = leb-true _ _ p.1.0; even = p.1.1.0; room = ltb-true _ _ p.1.1.1.0 }
 
-pub passes : (s : Season) (corridors places : ℕ) → Passed s corridors places → check_of s corridors places ≡ no_refusal
+pub accepts : (s : Season) (corridors places : ℕ) → Passed s corridors places → check_of s corridors places ≡ no_refusal
 unfolding tests_of
-passes s corridors places p = sym (where_all_pass (tests_of s corridors places) (eq-eqb _ _ p.size, (le-leb _ _ p.few, (p.even, (lt-ltb _ _ p.room, tt)))))
+accepts s corridors places p = sym (where_all_pass (tests_of s corridors places) (eq-eqb _ _ p.size, (le-leb _ _ p.few, (p.even, (lt-ltb _ _ p.room, tt)))))
 
 -- ---- the season then
 pub fed_taken : (s : Season) (p : Draft) → said s p ≡ no_refusal → feed s p ≡ outcome no_refusal (with_plan s p)

@@ -16,7 +16,7 @@ use Rattle.season_defs.specs.Terms.{lowest}
 use Rattle.season_defs.specs.Plans.{Draft, total, greatest, least, least_from, mean, circuits_at, column, figures_at, figures_over, Reordered, none, keep, swap, then}
 use Rattle.season_defs.specs.Feeding.{most_plans, most_corridors, largest, begun, even_with, with_plan, Outcome, no_figures, corridor_figures, season_figures, said, after, fed_all, taken_if, taken, AllTaken, Held, AllHeld, Alike}
 use Rattle.season_defs.specs.declared.Season.{Season}
-use Rattle.season_defs.proofs.Checks.{Passed, passed, passes, fed_taken, fed_refused}
+use Rattle.season_defs.proofs.Checks.{Passed, passed, accepts, fed_taken, fed_refused}
 use Rattle.season_defs.proofs.Order.{same, back, to_front, same_length, first_anywhere, same_at, same_over}
 use Rattle.season_defs.proofs.Taking.{corridors_of_lem, season_of, none_taken, column_more, column_past, mapped_length, one_more_lem}
 use Rattle.std.specs.Prelude.{Err, Ok, Result}
@@ -183,7 +183,7 @@ even_with_lem n p (q ∷ qs) h g = or_right (eqb (suc (length qs)) 0) _ (eq-eqb 
 all_taken : (n : ℕ) (ps qs : List Draft) (s : Season) → s ≡ season_of qs → AllSound n ps → AllSound n qs → Good qs → length ps + length qs ≤ most_plans → AllTaken s ps
 all_taken n [] qs s e h g k l = tt
 all_taken n (p ∷ ps) qs s e h g k l =
-    let a : said s p ≡ no_refusal = ap (λ (z : Season). said z p) e ∙ passes (season_of qs) p.corridors (length p.circuits) (record { size = h.0.size; few = h.0.few; even = even_with_lem n p qs h.0 g; room = room_left }) in
+    let a : said s p ≡ no_refusal = ap (λ (z : Season). said z p) e ∙ accepts (season_of qs) p.corridors (length p.circuits) (record { size = h.0.size; few = h.0.few; even = even_with_lem n p qs h.0 g; room = room_left }) in
     let t = go_on s p qs e k h.0.held a in
     (a, all_taken n ps (p ∷ qs) (after s p) t.0 h.1 (h.0, g) t.1 (omega arith))
   where

@@ -1,23 +1,22 @@
 -- The whole operation, from what its parts leave.
 use Prim.Native.Nat.{ℕ, ◌+◌}
-use mathlib.Core.Bool.{Bool, true, false, cond}
+use mathlib.Core.Bool.{Bool, true}
 use mathlib.Core.List.{List, []}
 use mathlib.Core.Path.{◌≡◌, refl, sym, ap, ◌∙◌}
 use lib.Ieee.{Float}
 use lib.ListN.{length}
 use Rattle.refusal.specs.declared.Refusal.{Refusal}
-use Rattle.refusal.specs.declared.Refusal.TheVariants.{Length}
 use Rattle.casefile_defs.specs.Bounds.{most_sheet}
 use Rattle.casefile_defs.specs.Tables.{Places, places_of, sizes_ok}
 use Rattle.casefile_defs.specs.declared.Header.{Header}
 use Rattle.casefile_defs.proofs.Whole.{Sizes, sizes}
 use Rattle.plan_defs.specs.Case.{Case, levels}
 use Rattle.join_defs.specs.Columns.{figures, counts, joined_sheet}
-use Rattle.join_defs.specs.Districts.{joined_case, join_check}
+use Rattle.join_defs.specs.Districts.{joined_case, check_of}
 use Rattle.case_defs.specs.Cases.{case_as}
 use Rattle.join_defs.specs.Joining.{header_of, laid_out, Outcome, outcome, joined_by, join_cases}
 use Rattle.join_defs.proofs.Tables.{sheet_are, filled_tables}
-use Rattle.join.specs.Joins.{headers_of, tests_of, check_of}
+use Rattle.join.specs.Joins.{headers_of}
 use Rattle.join.proofs.Refusals.{CallJoinable}
 use Rattle.std.specs.Prelude.{Err, Ok, Result}
 
@@ -48,21 +47,12 @@ module _ (h : Header) (p : Places) (k : Header) (q : Places) (out : Places) wher
   abbrev joined : Result (Unit {0}) Refusal → Outcome
   joined r = joined_by r (joined_case first second) (h.target + k.target) out
 
-  -- the operation by its verdict
-  by_verdict : joined (check_of (sizes_ok out) first h.target second k.target) ≡ join_cases h p k q out
-  unfolding join_cases joined_by tests_of
-  by_verdict = go (sizes_ok out) (join_check first h.target second k.target)
-    where
-      go : (b : Bool) (r : Result (Unit {0}) Refusal) → joined (cond b r (Err Length)) ≡ cond b (joined r) (outcome (Err Length) out)
-      go true r = refl
-      go false r = refl
-
   -- ---- a refusal
   pub refused_as : (b : Bool) (f : Refusal) (a : Result Header Refusal) (r : Result (Unit {0}) Refusal) → a ≡ Err f → r ≡ Err f → r ≡ check_of b first h.target second k.target
       → b ≡ sizes_ok out → outcome a out ≡ join_cases h p k q out
-  unfolding joined_by
+  unfolding join_cases joined_by
   refused_as b f a r e g c z =
-      ap (λ (x : Result Header Refusal). outcome x out) e ∙ ap joined (sym g ∙ c ∙ ap (λ (x : Bool). check_of x first h.target second k.target) z) ∙ by_verdict
+      ap (λ (x : Result Header Refusal). outcome x out) e ∙ ap joined (sym g ∙ c ∙ ap (λ (x : Bool). check_of x first h.target second k.target) z)
 
   -- ---- an answer: the tables, column by column, and the header
   tables_by_lem : levels first ≡ levels second → Sizes out → tables_by h.buses h.corridors k.corridors (levels first) p q out ≡ laid_out (joined_case first second)
@@ -98,9 +88,8 @@ module _ (h : Header) (p : Places) (k : Header) (q : Places) (out : Places) wher
 
   pub joined_whole : (g : Header) (r : Places) → CallJoinable (sizes_ok out) first h.target second k.target → g ≡ headers_of h k → r ≡ laid_out (joined_case first second)
       → outcome (Ok g) r ≡ join_cases h p k q out
-  unfolding joined_by
+  unfolding join_cases joined_by
   joined_whole g r j e f =
       ap (λ (x : Header). outcome (Ok x) r) (e ∙ header_is)
       ∙ ap (λ (y : Places). outcome (Ok (header_of (joined_case first second) (h.target + k.target))) y) f
       ∙ ap joined j.free
-      ∙ by_verdict

@@ -1,17 +1,13 @@
--- What the contracts of join's functions cite: the tests that read two headers, the joined header, and the refusals in order.
-use Rattle.std.specs.Prelude.{ℕ, ◌+◌, ◌-◌, ◌*◌, ◌^◌, ◌<◌, ◌≤◌, Bool, cond, ◌&&◌, List, ◌∷◌, ◌≡◌, leb, ltb, eqb, length, get_or, Result}
-use Rattle.loops.specs.Verdict.{Test, fact, verdict}
-use Rattle.refusal.specs.declared.Refusal.TheVariants.{Length}
+-- What the contracts of join's functions cite: the tests that read two headers, and the joined header.
+use Rattle.std.specs.Prelude.{ℕ, ◌+◌, ◌-◌, ◌*◌, ◌^◌, ◌<◌, ◌≤◌, Bool, cond, ◌&&◌, List, ◌≡◌, leb, ltb, eqb, length, get_or}
 use Rattle.mode.specs.Number.{mode_number}
 use Rattle.sheets.specs.Sheet.{row_figures}
 use Rattle.casefile_defs.specs.Bounds.{most_levels, most_buses, most_corridors, most_generators, most_target}
 use Rattle.casefile_defs.specs.Tables.{Places, places_of}
 use Rattle.casefile_defs.specs.declared.Header.{Header}
 use Rattle.plan_defs.specs.Case.{Case}
-use Rattle.join_defs.specs.Districts.{join_tests}
 use Rattle.case_defs.specs.Cases.{case_as}
 use Rattle.join.specs.declared.district.District.{District}
-use Rattle.refusal.specs.declared.Refusal.{Refusal}
 
 -- place i of two columns one after the other, and one value past both; d stands for an element that neither has
 abbrev pub either_at : {A : Type 0} → A → A → List A → List A → ℕ → A
@@ -63,10 +59,3 @@ headers_of h k = record {
   above = h.above;
   requested = h.requested;
 }
-
--- the refusals in order; `fits`: the joined tables have their sizes
-unfoldable pub tests_of : Bool → Case → ℕ → Case → ℕ → List (Test Refusal)
-tests_of fits c t d u = fact fits Length ∷ join_tests c t d u
-
-abbrev pub check_of : Bool → Case → ℕ → Case → ℕ → Result (Unit {0}) Refusal
-check_of fits c t d u = verdict (tests_of fits c t d u)

@@ -1,7 +1,7 @@
 // The refusals, in order: 1 for the joined tables; 1 to 7 of the first case, then of the second; 2 for the sums; 24. They touch nothing.
 ghost use Rattle.std.specs.Prelude.{◌≡◌, ◌+◌, leb};
-ghost use Rattle.join_defs.specs.Districts.{same_ladder};
-ghost use Rattle.join.specs.Joins.{case_of, sums_fit, heads_alike, check_of};
+ghost use Rattle.join_defs.specs.Districts.{same_ladder, check_of};
+ghost use Rattle.join.specs.Joins.{case_of, sums_fit, heads_alike};
 
 use crate::district::{District, check_district};
 use casefile_defs::{Header, MOST_BUSES, MOST_CORRIDORS, MOST_GENERATORS};

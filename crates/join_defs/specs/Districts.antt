@@ -5,7 +5,7 @@ use Rattle.loops.specs.Figures.{at}
 use Rattle.loops.specs.Loops.{first}
 use Rattle.loops.specs.Verdict.{Test, fact, verdict}
 use Rattle.refusal.specs.declared.Refusal.{Refusal}
-use Rattle.refusal.specs.declared.Refusal.TheVariants.{Count, Districts}
+use Rattle.refusal.specs.declared.Refusal.TheVariants.{Length, Count, Districts}
 use Rattle.mode.specs.Number.{mode_number}
 use Rattle.plan_defs.specs.Constants.{most_buses, most_corridors, most_generators, most_target}
 use Rattle.plan_defs.specs.Case.{Case, Row, case_with}
@@ -49,3 +49,10 @@ join_tests c t d u = case_tests c t ++ (case_tests d u ++ (fact (sums_ok c t d u
 
 abbrev pub join_check : Case → ℕ → Case → ℕ → Result (Unit {0}) Refusal
 join_check c t d u = verdict (join_tests c t d u)
+
+-- the same of a call, 1 for the joined tables first. `fits`: they have their sizes
+unfoldable pub call_tests : Bool → Case → ℕ → Case → ℕ → List (Test Refusal)
+call_tests fits c t d u = fact fits Length ∷ join_tests c t d u
+
+abbrev pub check_of : Bool → Case → ℕ → Case → ℕ → Result (Unit {0}) Refusal
+check_of fits c t d u = verdict (call_tests fits c t d u)

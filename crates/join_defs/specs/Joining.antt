@@ -1,18 +1,17 @@
--- `join_cases`: two cases in tables of exactly their counts, and the joined tables, lent as for case reading. After 1 for the joined tables come the refusals of
--- `join_check`; a refusal touches nothing, an answer fills every place, zero past the counts.
+-- `join_cases`: two cases in tables of exactly their counts, and the joined tables, lent as for case reading. A refusal touches nothing, an answer fills every
+-- place, zero past the counts.
 use Rattle.std.specs.Prelude.{ℕ, ◌+◌, ◌*◌, ◌/◌, ◌%◌, cond, List, [], ◌∷◌, ltb, Float, get_or, Err, Ok, Result}
 use Rattle.loops.specs.Figures.{at, nought}
 use Rattle.loops.specs.Loops.{tab}
 use Rattle.refusal.specs.Reply.{Reply}
 use Rattle.refusal.specs.declared.Refusal.{Refusal}
-use Rattle.refusal.specs.declared.Refusal.TheVariants.{Length}
 use Rattle.sheets.specs.Sheet.{row_figures, row_corridor, row_level}
 use Rattle.casefile_defs.specs.Bounds.{most_levels, most_buses, most_generators, most_corridors, most_sheet}
 use Rattle.casefile_defs.specs.Tables.{Places, places_of, sizes_ok, reply_of}
 use Rattle.casefile_defs.specs.declared.Header.{Header}
 use Rattle.plan_defs.specs.Case.{Case, Row, levels}
 use Rattle.case_defs.specs.Cases.{case_as}
-use Rattle.join_defs.specs.Districts.{joined_case, join_check}
+use Rattle.join_defs.specs.Districts.{joined_case, check_of}
 
 -- a header of a case and a target
 abbrev pub header_of : Case → ℕ → Header
@@ -58,9 +57,8 @@ unfoldable pub joined_by : Result (Unit {0}) Refusal → Case → ℕ → Places
 joined_by (Err f) c target out = outcome (Err f) out
 joined_by (Ok tt) c target out = outcome (Ok (header_of c target)) (laid_out c)
 
-abbrev pub joined_as : Case → ℕ → Case → ℕ → Places → Outcome
-joined_as c t d u out = joined_by (join_check c t d u) (joined_case c d) (t + u) out
-
 unfoldable pub join_cases : Header → Places → Header → Places → Places → Outcome
 join_cases h p k q out =
-    cond (sizes_ok out) (joined_as (case_as h p) h.target (case_as k q) k.target out) (outcome (Err Length) out)
+    let c = case_as h p in
+    let d = case_as k q in
+    joined_by (check_of (sizes_ok out) c h.target d k.target) (joined_case c d) (h.target + k.target) out

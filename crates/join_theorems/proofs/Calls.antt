@@ -14,13 +14,13 @@ use lib.Seq.{get_or-take, length-take-le}
 use Rattle.loops.specs.Figures.{at, nought}
 use Rattle.loops.specs.Loops.{tab}
 use Rattle.loops.proofs.Bools.{both, unequal}
+use Rattle.loops.proofs.Chains.{only, err_not_ok}
 use Rattle.loops.proofs.Fronts.{front_tab}
 use Rattle.loops.proofs.Tab.{length_tab, get_tab, tab_same, tab_of}
 use Rattle.sheets.specs.Sheet.{row_figures, row_index, row_place, row_corridor, row_level}
 use Rattle.sheets.proofs.Layouts.{parts, row_inside}
 use Rattle.loads.specs.Load.{weighed, loads_of}
 use Rattle.refusal.specs.declared.Refusal.{Refusal}
-use Rattle.refusal.specs.declared.Refusal.TheVariants.{Length}
 use Rattle.casefile_defs.specs.Bounds.{most_levels, most_buses, most_generators, most_corridors, most_sheet}
 use Rattle.casefile_defs.specs.Tables.{Places, places_of, sizes_ok}
 use Rattle.casefile_defs.specs.declared.Header.{Header}
@@ -30,7 +30,7 @@ use Rattle.plan_defs.specs.Outcome.{Outcome}
 use Rattle.plan_defs.specs.Demand.{AnswerTo}
 use Rattle.plan_defs.specs.declared.CorridorPlan.{CorridorPlan}
 use Rattle.plan_defs.proofs.Accepted.{Accepted, accepted}
-use Rattle.join_defs.specs.Districts.{joined_row, joined_case, join_check}
+use Rattle.join_defs.specs.Districts.{joined_row, joined_case, call_tests, check_of}
 use Rattle.case_defs.specs.Cases.{case_as, case_in}
 use Rattle.join_defs.specs.Joining.{header_of, padded, figure_in, sheet_of, laid_out, Outcome as Made, outcome, joined_by, join_cases}
 use Rattle.join_defs.proofs.Levels.{levels_same}
@@ -232,8 +232,8 @@ pub record Laid (h k j : Header) (p q r : Places) : Type 0 where
   pub tables : r ≡ laid_out (joined_case (case_as h p) (case_as k q))
 
 pub laid : (h k j : Header) (p q out r : Places) → outcome (Ok j) r ≡ join_cases h p k q out → Laid h k j p q r
-unfolding join_cases joined_by
-laid h k j p q out r e = go (sizes_ok out) e
+unfolding join_cases joined_by call_tests
+laid h k j p q out r e = by (check_of (sizes_ok out) c h.target d k.target) refl e
   where
     c : Case
     c = case_as h p
@@ -244,14 +244,14 @@ laid h k j p q out r e = go (sizes_ok out) e
     t : ℕ
     t = h.target + k.target
 
-    by : (f : Result (Unit {0}) Refusal) → join_check c h.target d k.target ≡ f → outcome (Ok j) r ≡ joined_by f (joined_case c d) t out → Laid h k j p q r
+    by : (f : Result (Unit {0}) Refusal) → check_of (sizes_ok out) c h.target d k.target ≡ f → outcome (Ok j) r ≡ joined_by f (joined_case c d) t out → Laid h k j p q r
     by (Err f) x y = absurd (unequal (cc (ap (λ (o : Made). o.reply) y)))
     by (Ok tt) x y =
-        record { joins = joinable c d h.target k.target x; header = cc (ap (λ (o : Made). o.reply) y); tables = ap (λ (o : Made). o.places) y }
-
-    go : (b : Bool) → outcome (Ok j) r ≡ cond b (joined_by (join_check c h.target d k.target) (joined_case c d) t out) (outcome (Err Length) out) → Laid h k j p q r
-    go true x = by (join_check c h.target d k.target) refl x
-    go false x = absurd (unequal (cc (ap (λ (o : Made). o.reply) x)))
+        record {
+          joins = joinable c d h.target k.target (only (sizes_ok out) x err_not_ok).1;
+          header = cc (ap (λ (o : Made). o.reply) y);
+          tables = ap (λ (o : Made). o.places) y;
+        }
 
 pub joined_answer : (h k j : Header) (p q out r : Places) → outcome (Ok j) r ≡ join_cases h p k q out → Joined h k j p q r
 joined_answer h k j p q out r e =

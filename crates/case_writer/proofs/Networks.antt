@@ -30,7 +30,7 @@ use Rattle.casefile_writer.specs.Words.{weighs}
 use Rattle.casefile_writer.proofs.Lent.{within}
 use Rattle.casefile_writer.proofs.Puts.{same_bytes}
 use Rattle.small_defs.specs.Networks.{all_places}
-use Rattle.small_defs.specs.Tables.{padded, laid_out, header_at, tables_at, Made, made, small_network}
+use Rattle.small_defs.specs.Tables.{padded, laid_out, header_at, tables_at, Made, made, tests_of, small_network}
 use Rattle.small_theorems.specs.Held.{file_at}
 use Rattle.small_theorems.proofs.Accepted.{sound_at}
 use Rattle.small_theorems.proofs.Theorems.{weights_one}
@@ -38,11 +38,11 @@ use Rattle.case_writer.specs.Files.{Wrote}
 
 -- the two ways of tables that are sized
 there : (i : ℕ) (q : Places) → sizes_ok q ≡ true → i < all_places → small_network i q ≡ made (Ok (header_at i)) (tables_at i)
-unfolding small_network
+unfolding small_network tests_of
 there i q z h = simp (z, lt-ltb i all_places h)
 
 past : (i : ℕ) (q : Places) → sizes_ok q ≡ true → all_places ≤ i → small_network i q ≡ made (Err Place) q
-unfolding small_network
+unfolding small_network tests_of
 past i q z h = simp (z, le-ltb i all_places h)
 
 -- what a reply says

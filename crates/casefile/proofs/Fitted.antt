@@ -11,10 +11,10 @@ use Rattle.loops.specs.Bounds.{most_buses}
 use Rattle.loops.specs.Parts.{part, put}
 use Rattle.loops.proofs.Parts.{length_put, take_replicate}
 use Rattle.casefile_defs.specs.Bounds.{most_bytes}
-use Rattle.casefile_defs.specs.Layout.{spot}
+use Rattle.casefile_defs.specs.Layout.{size_of, spot}
 use Rattle.casefile_defs.specs.Moving.{weight_of, buses_as, file_as, fitted}
 use Rattle.casefile_defs.specs.declared.Kind.{Kind}
-use Rattle.casefile_defs.specs.declared.Kind.TheVariants.{Bus}
+use Rattle.casefile_defs.specs.declared.Kind.TheVariants.{Bus, WeighedBus}
 use Rattle.casefile.specs.Movable.{Kept, last_start}
 use Rattle.casefile.specs.Records.{Room}
 use Rattle.casefile.proofs.Copies.{put_more, weight_length, length_buses}
@@ -97,5 +97,6 @@ spot_inside k s at (suc n) h r = r n (omega arith)
 
 pub buses_small : (l : Kind) (s : List ℕ) (at n : ℕ) → at ≤ last_start → n ≤ most_buses → Kept s at n → at + length (buses_as l s at n) ≤ most_bytes
 buses_small l s at n h b r =
-    let m : n * (11 + length (weight_of l)) ≤ most_buses * 19 = mul-le-mul b (let w = weight_length l in let z : 11 + length (weight_of l) ≤ 19 = omega arith in z) in
+    let m : n * (size_of Bus + length (weight_of l)) ≤ most_buses * size_of WeighedBus =
+    mul-le-mul b (let w = weight_length l in let z : size_of Bus + length (weight_of l) ≤ size_of WeighedBus = omega arith in z) in
     omega (arith, length_buses l s at n r)

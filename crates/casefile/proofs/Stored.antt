@@ -50,13 +50,14 @@ pub number_there : (k : Kind) (s : List ℕ) (at o w x : ℕ) → o + w ≤ size
 number_there k s at o w x h e = number_had k s at o w x (omega (arith, standing_least k s at)) e
 
 module _ (s : List ℕ) (at : ℕ) where
-  pub cap_there : (x : ℕ) → marked CappedCorridor s at ≡ true → at + 24 ≤ length s → x ≡ get_or s (at + 23) 0 → x ≡ cap_at s at
+  pub cap_there : (x : ℕ) → marked CappedCorridor s at ≡ true → at + size_of CappedCorridor ≤ length s → x ≡ get_or s (at + size_of Corridor) 0 → x ≡ cap_at s at
   cap_there x m h e =
-      let r : 24 ≤ size_of (standing Corridor s at) = subst (λ (b : Bool). 24 ≤ size_of (cond b CappedCorridor Corridor)) (sym m) (omega arith) in
-      number_had Corridor s at 23 1 x r
-      (e ∙ (let a : get_or s (at + 23) 0 ≡ word 1 (at + 23) s = omega (arith, word_more 0 (at + 23) s (omega arith), word_none (suc (at + 23)) s) in a))
+      let r : size_of CappedCorridor ≤ size_of (standing Corridor s at) = subst (λ (b : Bool). size_of CappedCorridor ≤ size_of (cond b CappedCorridor Corridor)) (sym m) (omega arith) in
+      number_had Corridor s at (size_of Corridor) 1 x r
+      (e ∙ (let a : get_or s (at + size_of Corridor) 0 ≡ word 1 (at + size_of Corridor) s =
+      omega (arith, word_more 0 (at + size_of Corridor) s (omega arith), word_none (suc (at + size_of Corridor)) s) in a))
 
   pub no_cap : marked CappedCorridor s at ≡ false → 0 ≡ cap_at s at
   no_cap m =
-      let r : size_of (standing Corridor s at) < 24 = subst (λ (b : Bool). size_of (cond b CappedCorridor Corridor) < 24) (sym m) (omega arith) in
-      number_not Corridor s at 23 1 r
+      let r : size_of (standing Corridor s at) < size_of CappedCorridor = subst (λ (b : Bool). size_of (cond b CappedCorridor Corridor) < size_of CappedCorridor) (sym m) (omega arith) in
+      number_not Corridor s at (size_of Corridor) 1 r

@@ -5,7 +5,7 @@ ghost use Rattle.std.specs.Prelude.{◌≡◌};
 ghost use Rattle.casefile_defs.specs.Tables.{outcome, places_of, read_case};
 ghost use Rattle.casefile_defs.specs.Moving.{moved_as, move_forward, move_back};
 
-use casefile_defs::{CaseRead, Header, Kind, Wanted, tables_sized};
+use casefile_defs::{CaseRead, HEAD_BYTES, Header, Kind, Wanted, tables_sized};
 use mode::PlanMode;
 use refusal::Refusal;
 
@@ -79,7 +79,7 @@ pub fn read_case(
     let read = scan::read_as(file, Wanted::Either);
     let h = read.reading.unwrap_or(NOTHING);
     let levels = h.above + h.requested;
-    let buses = tables::read_levels(file, record::HEAD_END, levels, ladder);
+    let buses = tables::read_levels(file, HEAD_BYTES, levels, ladder);
     let generators = tables::read_buses(file, buses, h.buses, tier, reading, weight);
     let corridors = tables::read_generators(
         file,

@@ -13,7 +13,7 @@ use crate::columns::Table;
 use crate::record;
 use crate::record::{mark, size, weighs};
 use crate::scan::read_as;
-use casefile_defs::{Header, Kind, MOST_BYTES, Wanted};
+use casefile_defs::{HEAD_BYTES, Header, Kind, LEVEL_BYTES, MOST_BYTES, Wanted};
 use loops::first_fault;
 use refusal::Refusal;
 
@@ -89,7 +89,7 @@ fn buses_at(h: Header) -> usize
     requires { Small h }
     ensures { result ≡ levels_at + levels h * size_of Kind.Level }
 {
-    record::HEAD_END + (h.above + h.requested) * record::LEVEL_END
+    HEAD_BYTES + (h.above + h.requested) * LEVEL_BYTES
 }
 
 // The first bus whose weight is lost in a record of a kind: one that is not 1, where the kind has none.

@@ -5,7 +5,10 @@ ghost use Rattle.casefile_defs.specs.Moving.{mark_of};
 ghost use Rattle.casefile_defs.specs.Reading.{record_at};
 
 use crate::bytes::word;
-use casefile_defs::Kind;
+use casefile_defs::{
+    BUS_BYTES, CAPPED_CORRIDOR_BYTES, CORRIDOR_BYTES, GENERATOR_BYTES, HEAD_BYTES, Kind,
+    LEVEL_BYTES, LINE_BYTES, WEIGHED_BUS_BYTES,
+};
 use refusal::Refusal;
 
 // The bytes of a mark, of a u8, a u16 and a u32, and of a figure.
@@ -19,7 +22,7 @@ pub const U32: usize = 4;
 
 pub const FIGURE: usize = 8;
 
-// Where each field starts in its record, and where the record ends.
+// Where each field starts in its record.
 pub const HEAD_MODE: usize = MARK;
 
 pub const HEAD_TARGET: usize = HEAD_MODE + U8;
@@ -34,21 +37,13 @@ pub const HEAD_ABOVE: usize = HEAD_GENERATORS + U16;
 
 pub const HEAD_REQUESTED: usize = HEAD_ABOVE + U8;
 
-pub const HEAD_END: usize = HEAD_REQUESTED + U8;
-
 pub const LEVEL_KV: usize = MARK;
-
-pub const LEVEL_END: usize = LEVEL_KV + FIGURE;
 
 pub const BUS_TIER: usize = MARK;
 
 pub const BUS_READING: usize = BUS_TIER + U8;
 
-const BUS_END: usize = BUS_READING + FIGURE;
-
-pub const BUS_WEIGHT: usize = BUS_END;
-
-const WEIGHED_END: usize = BUS_WEIGHT + FIGURE;
+pub const BUS_WEIGHT: usize = BUS_BYTES;
 
 pub const GENERATOR_BUS: usize = MARK;
 
@@ -62,8 +57,6 @@ pub const GENERATOR_C1: usize = GENERATOR_PMAX + FIGURE;
 
 pub const GENERATOR_C2: usize = GENERATOR_C1 + FIGURE;
 
-const GENERATOR_END: usize = GENERATOR_C2 + FIGURE;
-
 pub const CORRIDOR_A: usize = MARK;
 
 pub const CORRIDOR_B: usize = CORRIDOR_A + U16;
@@ -74,11 +67,7 @@ pub const CORRIDOR_LENGTH: usize = CORRIDOR_CIRCUITS + U8;
 
 pub const CORRIDOR_SHARE: usize = CORRIDOR_LENGTH + FIGURE;
 
-const CORRIDOR_END: usize = CORRIDOR_SHARE + FIGURE;
-
-pub const CORRIDOR_CAP: usize = CORRIDOR_END;
-
-const CAPPED_END: usize = CORRIDOR_CAP + U8;
+pub const CORRIDOR_CAP: usize = CORRIDOR_BYTES;
 
 pub const LINE_R: usize = MARK;
 
@@ -89,8 +78,6 @@ const LINE_B: usize = LINE_X + FIGURE;
 const LINE_RATE: usize = LINE_B + FIGURE;
 
 pub const LINE_BASIS: usize = LINE_RATE + FIGURE;
-
-const LINE_END: usize = LINE_BASIS + U8;
 
 // The highest mode, slack and basis.
 const LAST_MODE: u64 = 5;
@@ -104,14 +91,14 @@ pub fn size(kind: Kind) -> usize
     ensures { result ≡ size_of kind }
 {
     match kind {
-        Kind::Head => HEAD_END,
-        Kind::Level => LEVEL_END,
-        Kind::Bus => BUS_END,
-        Kind::Generator => GENERATOR_END,
-        Kind::Corridor => CORRIDOR_END,
-        Kind::Line => LINE_END,
-        Kind::CappedCorridor => CAPPED_END,
-        Kind::WeighedBus => WEIGHED_END,
+        Kind::Head => HEAD_BYTES,
+        Kind::Level => LEVEL_BYTES,
+        Kind::Bus => BUS_BYTES,
+        Kind::Generator => GENERATOR_BYTES,
+        Kind::Corridor => CORRIDOR_BYTES,
+        Kind::Line => LINE_BYTES,
+        Kind::CappedCorridor => CAPPED_CORRIDOR_BYTES,
+        Kind::WeighedBus => WEIGHED_BUS_BYTES,
     }
 }
 

@@ -17,6 +17,23 @@ pub const ROW_FIGURES: usize = sheets::ROW_FIGURES;
 
 pub const MOST_SHEET: usize = MOST_CORRIDORS * MOST_LEVELS * ROW_FIGURES;
 
+// The bytes of a record of each kind, its mark counted.
+pub const HEAD_BYTES: usize = 15;
+
+pub const LEVEL_BYTES: usize = 10;
+
+pub const BUS_BYTES: usize = 11;
+
+pub const GENERATOR_BYTES: usize = 37;
+
+pub const CORRIDOR_BYTES: usize = 23;
+
+pub const LINE_BYTES: usize = 35;
+
+pub const CAPPED_CORRIDOR_BYTES: usize = 24;
+
+pub const WEIGHED_BUS_BYTES: usize = 19;
+
 // A case's mode, target and counts.
 #[derive(Clone, Copy)]
 pub struct Header {

@@ -110,17 +110,17 @@ unfolding spot
 spot_most k s m at zero g = omega arith
 spot_most k s m at (suc n) g = omega (arith, spot_most k s m at n g, g (spot k s at n), suc-mul n m)
 
-bus_most : (s : List ℕ) (p : ℕ) → size_of (standing Bus s p) ≤ 19
+bus_most : (s : List ℕ) (p : ℕ) → size_of (standing Bus s p) ≤ size_of WeighedBus
 bus_most s p = go (marked WeighedBus s p)
   where
-    go : (b : Bool) → size_of (cond b WeighedBus Bus) ≤ 19
+    go : (b : Bool) → size_of (cond b WeighedBus Bus) ≤ size_of WeighedBus
     go true = omega arith
     go false = omega arith
 
-corridor_most : (s : List ℕ) (p : ℕ) → size_of (standing Corridor s p) ≤ 24
+corridor_most : (s : List ℕ) (p : ℕ) → size_of (standing Corridor s p) ≤ size_of CappedCorridor
 corridor_most s p = go (marked CappedCorridor s p)
   where
-    go : (b : Bool) → size_of (cond b CappedCorridor Corridor) ≤ 24
+    go : (b : Bool) → size_of (cond b CappedCorridor Corridor) ≤ size_of CappedCorridor
     go true = omega arith
     go false = omega arith
 
@@ -136,11 +136,11 @@ whole_short f h v w =
       b.corridors,
       b.levels,
       length_file f h v 0 w,
-      spot_most Level s 10 levels_at (levels h) (λ q. omega arith),
-      spot_most Bus s 19 (buses_at s h) h.buses (bus_most s),
-      spot_most Generator s 37 (generators_at s h) h.generators (λ q. omega arith),
-      spot_most Corridor s 24 (corridors_at s h) h.corridors (corridor_most s),
-      spot_most Line s 35 (lines_at s h) (lines h) (λ q. omega arith),
+      spot_most Level s (size_of Level) levels_at (levels h) (λ q. omega arith),
+      spot_most Bus s (size_of WeighedBus) (buses_at s h) h.buses (bus_most s),
+      spot_most Generator s (size_of Generator) (generators_at s h) h.generators (λ q. omega arith),
+      spot_most Corridor s (size_of CappedCorridor) (corridors_at s h) h.corridors (corridor_most s),
+      spot_most Line s (size_of Line) (lines_at s h) (lines h) (λ q. omega arith),
     )
 
 pub file_short : (f : Form) (h : Header) (p : Places) → CaseTables h p → length (file_of f h p) ≤ longest

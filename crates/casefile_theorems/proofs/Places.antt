@@ -108,7 +108,7 @@ corridor_share false s p w g = figure_cell Corridor Corridor s p w 4 15 g (lit< 
 corridor_share true s p w g = figure_cell Corridor CappedCorridor s p w 4 15 g (lit< tt) refl
 
 corridor_cap : (b : Bool) (s : List ℕ) (p : ℕ) (w : ℕ → ℕ) → Found Corridor (corridor_kind b) s p w → number_at Corridor s p 23 1 ≡ cap_from b (w cap_field)
-corridor_cap false s p w g = sym (number_not Corridor s p 23 1 (subst (λ (x : Kind). size_of x < 24) (sym g.kind) (omega arith)))
+corridor_cap false s p w g = sym (number_not Corridor s p 23 1 (subst (λ (x : Kind). size_of x < size_of CappedCorridor) (sym g.kind) (omega arith)))
 corridor_cap true s p w g = number_cell Corridor CappedCorridor s p w 5 23 1 g (lit< tt) refl (omega arith)
 
 -- ---- the sheet
@@ -161,7 +161,7 @@ module _ (f : Form) (h : Header) (v : Kind → ℕ → ℕ → ℕ) (n : ℕ) (g
   abbrev s : List ℕ
   s = padded f h v n g
 
-  generator_number : (j o w : ℕ) → j < 6 → ((p : ℕ) → field Generator j p s ≡ word w (p + o) s) → o + w ≤ 37
+  generator_number : (j o w : ℕ) → j < 6 → ((p : ℕ) → field Generator j p s ≡ word w (p + o) s) → o + w ≤ size_of Generator
       → tab most_generators (number_in Generator s (generators_at s h) h.generators o w) ≡ numbers_from most_generators h.generators (λ i. v Generator i j)
   generator_number j o w l e m =
       number_column Generator s (generators_at s h) h.generators o w most_generators _

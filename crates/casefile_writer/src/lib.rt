@@ -11,7 +11,10 @@ ghost use Rattle.casefile_writer.specs.Put.{Put};
 
 use bytes::Bytes;
 use case_tables::Tables;
-use casefile_defs::{Header, MOST_BUSES, MOST_CORRIDORS, MOST_GENERATORS, MOST_LEVELS};
+use casefile_defs::{
+    CAPPED_CORRIDOR_BYTES, GENERATOR_BYTES, HEAD_BYTES, Header, LEVEL_BYTES, LINE_BYTES,
+    MOST_BUSES, MOST_CORRIDORS, MOST_GENERATORS, MOST_LEVELS, WEIGHED_BUS_BYTES,
+};
 use record::{Bus, Corridor, Generator, Level, Record};
 use table::{line_at, some_weight};
 
@@ -19,25 +22,12 @@ mod bytes;
 mod record;
 mod table;
 
-// The bytes of the longest record of each type.
-const HEAD: usize = 15;
-
-const LEVEL: usize = 10;
-
-const BUS: usize = 19;
-
-const GENERATOR: usize = 37;
-
-const CORRIDOR: usize = 24;
-
-const LINE: usize = 35;
-
 // The longest file of a case.
-pub const MOST_FILE: usize = HEAD
-    + MOST_LEVELS * LEVEL
-    + MOST_BUSES * BUS
-    + MOST_GENERATORS * GENERATOR
-    + MOST_CORRIDORS * (CORRIDOR + MOST_LEVELS * LINE);
+pub const MOST_FILE: usize = HEAD_BYTES
+    + MOST_LEVELS * LEVEL_BYTES
+    + MOST_BUSES * WEIGHED_BUS_BYTES
+    + MOST_GENERATORS * GENERATOR_BYTES
+    + MOST_CORRIDORS * (CAPPED_CORRIDOR_BYTES + MOST_LEVELS * LINE_BYTES);
 
 // The file of a case in tables of their largest size, with BV where a weight is not 1, and CP for the corridors that have a cap. Answers how
 // long it is. Each slice is a parameter of its own, so that a caller need not copy what he has into `Tables`.

@@ -1,5 +1,4 @@
--- The refusals in order, and what a request that passes has.
--- Each law is the definition with its tests decided.
+-- What a request that passes has, and the outcome of each way.
 use Prim.Native.Nat.{ℕ, ◌<◌, ◌≤◌}
 use mathlib.Core.Bool.{Bool, true, ◌&&◌}
 use mathlib.Core.List.{List}

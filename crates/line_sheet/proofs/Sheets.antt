@@ -47,8 +47,8 @@ figures_most levels corridors k c h =
     mul-le-mul (le_trans h c.corridors_most) l
 
 -- the rows of corridor k end within a sheet of that many corridors
-pub rows_end : (levels corridors k n : ℕ) → n ≡ sheet_figures levels corridors → k < corridors → k * (5 * levels) + 5 * levels ≤ n
-rows_end levels corridors k n e h = le_trans (row_fits k corridors (5 * levels) h) (le_of_eq (mul_left_comm corridors 5 levels ∙ sym e))
+pub rows_end : (levels corridors k n : ℕ) → n ≡ sheet_figures levels corridors → k < corridors → k * (row_figures * levels) + row_figures * levels ≤ n
+rows_end levels corridors k n e h = le_trans (row_fits k corridors (row_figures * levels) h) (le_of_eq (mul_left_comm corridors row_figures levels ∙ sym e))
 
 -- ---- the test, decided
 pub bad_counts : (levels corridors surveyed n m : ℕ) → counts_ok corridors levels ≡ false → false ≡ sheets_ok levels corridors surveyed n m
@@ -74,16 +74,16 @@ module _ (levels corridors surveyed k : ℕ) (a b : List Float) where
   unfolding corridor_rows
   no_corridor e h = rw (e, le-ltb k corridors h)
 
-  same_part : (w : List Float) → take (k * (5 * levels) + 5 * levels - k * (5 * levels)) (drop (k * (5 * levels)) w) ≡ part (k * corridor_figures levels) (corridor_figures levels) w
+  same_part : (w : List Float) → take (k * (row_figures * levels) + row_figures * levels - k * (row_figures * levels)) (drop (k * (row_figures * levels)) w) ≡ part (k * corridor_figures levels) (corridor_figures levels) w
   unfolding part
-  same_part w = let e : k * (5 * levels) + 5 * levels - k * (5 * levels) ≡ 5 * levels = omega arith in ap (λ (z : ℕ). take z (drop (k * (5 * levels)) w)) e
+  same_part w = let e : k * (row_figures * levels) + row_figures * levels - k * (row_figures * levels) ≡ row_figures * levels = omega arith in ap (λ (z : ℕ). take z (drop (k * (row_figures * levels)) w)) e
 
   pub of_surveyed : sheets_ok levels corridors surveyed (length a) (length b) ≡ true → k < corridors → k < surveyed
-      → take (k * (5 * levels) + 5 * levels - k * (5 * levels)) (drop (k * (5 * levels)) a) ≡ corridor_rows levels corridors surveyed k a b
+      → take (k * (row_figures * levels) + row_figures * levels - k * (row_figures * levels)) (drop (k * (row_figures * levels)) a) ≡ corridor_rows levels corridors surveyed k a b
   unfolding corridor_rows
   of_surveyed e h s = same_part a ∙ rw (e, lt-ltb k corridors h, lt-ltb k surveyed s)
 
   pub of_worked : sheets_ok levels corridors surveyed (length a) (length b) ≡ true → k < corridors → surveyed ≤ k
-      → take (k * (5 * levels) + 5 * levels - k * (5 * levels)) (drop (k * (5 * levels)) b) ≡ corridor_rows levels corridors surveyed k a b
+      → take (k * (row_figures * levels) + row_figures * levels - k * (row_figures * levels)) (drop (k * (row_figures * levels)) b) ≡ corridor_rows levels corridors surveyed k a b
   unfolding corridor_rows
   of_worked e h s = same_part b ∙ rw (e, lt-ltb k corridors h, le-ltb k surveyed s)

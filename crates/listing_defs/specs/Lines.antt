@@ -1,4 +1,4 @@
--- The text of each line of the listing (document 01, "Case file"), and of the whole listing.
+-- The text of each line of the listing (document 01, "Case file"), and how many bytes a listing has at most.
 use Rattle.std.specs.Prelude.{ℕ, zero, suc, ◌+◌, ◌*◌, List, [], ◌∷◌, ◌++◌, map, length, get_or, Float}
 use Rattle.loops.specs.Bounds.{most_levels, most_buses, most_generators, most_corridors}
 use Rattle.loops.specs.Figures.{at}

@@ -13,12 +13,10 @@ mod file;
 use casefile_defs::{MOST_BUSES, MOST_CORRIDORS, MOST_GENERATORS, MOST_LEVELS};
 use cases::Case;
 pub use file::{PlannedFile, Results};
-use planning::plan_corridors;
+use planning::{WORK_ROWS, plan_corridors};
 use refusal::Refusal;
 
-// The places of a work slice for each bus, corridor and generator.
-const WORK_ROWS: usize = 12;
-
+// The places of a work slice for a case of the most buses, corridors and generators.
 const MOST_WORK: usize = WORK_ROWS * (MOST_BUSES + MOST_CORRIDORS + MOST_GENERATORS);
 
 impl Results {

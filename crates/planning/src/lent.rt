@@ -3,7 +3,7 @@ ghost use Rattle.std.specs.Prelude.{◌≡◌};
 ghost use Rattle.planning.specs.Lent.{work_in, places_ok};
 
 // Places of each work slice for each bus, corridor and generator.
-const WORK_ROWS: usize = 12;
+pub const WORK_ROWS: usize = 12;
 
 // How many places the lent slices have.
 #[derive(Clone, Copy)]

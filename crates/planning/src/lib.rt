@@ -10,6 +10,7 @@ ghost use Rattle.plan_defs.specs.declared.CorridorPlan.{CorridorPlan};
 
 use acceptance::check_case;
 use lent::LentPlaces;
+pub use lent::WORK_ROWS;
 use loads::weigh;
 use mode::PlanMode;
 use plan_defs::CorridorPlan;

@@ -16,10 +16,10 @@ use Rattle.sheets.specs.Sheet.{row_figures}
 use Rattle.casefile_defs.specs.Tables.{Places}
 use Rattle.casefile_defs.specs.declared.Header.{Header}
 use Rattle.plan_defs.specs.Case.{Case, levels}
-use Rattle.plan_defs.specs.Accept.{case_tests}
+use Rattle.plan_defs.specs.Accept.{case_tests, call_tests}
 use Rattle.plan_defs.proofs.Accepted.{Accepted, accepted, bus_below, end_a_lem, end_b_lem}
 use Rattle.acceptance.specs.Check as one_case
-use Rattle.join_defs.specs.Districts.{same_ladder, sums_ok, alike, join_tests, call_tests, check_of}
+use Rattle.join_defs.specs.Districts.{same_ladder, sums_ok, alike, join_tests, tests_of, check_of}
 use Rattle.case_defs.specs.Cases.{case_as}
 use Rattle.join_defs.proofs.Faults.{Joinable, joinable as parted}
 use Rattle.join_defs.proofs.Levels.{levels_same}
@@ -31,10 +31,10 @@ module _ (fits : Bool) (c : Case) (t : ℕ) (d : Case) (u : ℕ) where
   -- by what is said of each case, and the two last tests
   pub answered : (x y : Result (Unit {0}) Refusal) (s l : Bool) → x ≡ one_case.check_of fits c t → y ≡ one_case.check_of true d u → s ≡ sums_ok c t d u → l ≡ alike c d
       → or_else x (or_else y (verdict (fact s Count ∷ fact l Districts ∷ []))) ≡ check_of fits c t d u
-  unfolding call_tests one_case.call_tests join_tests
+  unfolding tests_of call_tests join_tests
   answered x y s l e f g h =
       let last = fact (sums_ok c t d u) Count ∷ fact (alike c d) Districts ∷ [] in
-      rw (e, f, g, h, joined (one_case.call_tests fits c t) (case_tests d u ++ last), joined (case_tests d u) last)
+      rw (e, f, g, h, joined (call_tests fits c t) (case_tests d u ++ last), joined (case_tests d u) last)
 
   -- ---- what is known by the answer
   pub record CallJoinable : Type 0 where
@@ -43,7 +43,7 @@ module _ (fits : Bool) (c : Case) (t : ℕ) (d : Case) (u : ℕ) where
     pub joins : Joinable c d t u
 
   pub joinable : no_refusal ≡ check_of fits c t d u → CallJoinable
-  unfolding call_tests
+  unfolding tests_of
   joinable e = let p = only fits (sym e) err_not_ok in record { free = e; sized = p.0; joins = parted c d t u p.1 }
 
 -- ---- of two headers and their tables

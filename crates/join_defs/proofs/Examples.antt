@@ -17,7 +17,7 @@ use Rattle.casefile_defs.specs.declared.Header.{Header}
 use Rattle.plan_defs.specs.Case.{Case, rows_of, row_at}
 use Rattle.plan_defs.specs.Accept.{lengths_ok, counts_ok, level_ok, bus_ok, generator_ok, corridor_sound, row_ok, tables_tests, case_tests}
 use Rattle.join_defs.specs.Columns.{counts}
-use Rattle.join_defs.specs.Districts.{joined_row, joined_case, sums_ok, alike, same_ladder, join_tests, call_tests}
+use Rattle.join_defs.specs.Districts.{joined_row, joined_case, sums_ok, alike, same_ladder, join_tests, tests_of}
 use Rattle.case_defs.specs.Cases.{case_as}
 use Rattle.join_defs.specs.Joining.{sheet_of, joined_by, join_cases}
 
@@ -69,7 +69,7 @@ unfolding rows_of row_at lengths_ok counts_ok level_ok bus_ok generator_ok corri
 checks = 0
 
 unfoldable tests : ℕ
-unfolding checks join_cases joined_by call_tests join_tests joined_case joined_row sums_ok alike same_ladder sizes_ok number_of index_of mode_number least_index tab
+unfolding checks join_cases joined_by tests_of join_tests joined_case joined_row sums_ok alike same_ladder sizes_ok number_of index_of mode_number least_index tab
 tests = 0
 
 abbrev said : Header → Places → Header → Places → Reply Header

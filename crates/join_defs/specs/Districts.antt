@@ -51,8 +51,8 @@ abbrev pub join_check : Case → ℕ → Case → ℕ → Result (Unit {0}) Refu
 join_check c t d u = verdict (join_tests c t d u)
 
 -- the same of a call, 1 for the joined tables first. `fits`: they have their sizes
-unfoldable pub call_tests : Bool → Case → ℕ → Case → ℕ → List (Test Refusal)
-call_tests fits c t d u = fact fits Length ∷ join_tests c t d u
+unfoldable pub tests_of : Bool → Case → ℕ → Case → ℕ → List (Test Refusal)
+tests_of fits c t d u = fact fits Length ∷ join_tests c t d u
 
 abbrev pub check_of : Bool → Case → ℕ → Case → ℕ → Result (Unit {0}) Refusal
-check_of fits c t d u = verdict (call_tests fits c t d u)
+check_of fits c t d u = verdict (tests_of fits c t d u)

@@ -30,7 +30,7 @@ use Rattle.plan_defs.specs.Outcome.{Outcome}
 use Rattle.plan_defs.specs.Demand.{AnswerTo}
 use Rattle.plan_defs.specs.declared.CorridorPlan.{CorridorPlan}
 use Rattle.plan_defs.proofs.Accepted.{Accepted, accepted}
-use Rattle.join_defs.specs.Districts.{joined_row, joined_case, call_tests, check_of}
+use Rattle.join_defs.specs.Districts.{joined_row, joined_case, tests_of, check_of}
 use Rattle.case_defs.specs.Cases.{case_as, case_in}
 use Rattle.join_defs.specs.Joining.{header_of, padded, figure_in, sheet_of, laid_out, Outcome as Made, outcome, joined_by, join_cases}
 use Rattle.join_defs.proofs.Levels.{levels_same}
@@ -232,7 +232,7 @@ pub record Laid (h k j : Header) (p q r : Places) : Type 0 where
   pub tables : r ≡ laid_out (joined_case (case_as h p) (case_as k q))
 
 pub laid : (h k j : Header) (p q out r : Places) → outcome (Ok j) r ≡ join_cases h p k q out → Laid h k j p q r
-unfolding join_cases joined_by call_tests
+unfolding join_cases joined_by tests_of
 laid h k j p q out r e = by (check_of (sizes_ok out) c h.target d k.target) refl e
   where
     c : Case

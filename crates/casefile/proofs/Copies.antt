@@ -13,8 +13,8 @@ use lib.ListN.{length, take, drop, length-append, length-take}
 use lib.Seq.{take_at, drop-drop, drop_at}
 use Rattle.loops.specs.Parts.{part, put}
 use Rattle.loops.proofs.Parts.{length_part, put_none}
-use Rattle.casefile_defs.specs.Layout.{weighs, spot}
-use Rattle.casefile_defs.specs.Moving.{called, mark_of, one_bytes, weight_of, bus_as, buses_as}
+use Rattle.casefile_defs.specs.Layout.{size_of, weighs, spot}
+use Rattle.casefile_defs.specs.Moving.{called_bytes, called, mark_of, one_bytes, weight_of, bus_as, buses_as}
 use Rattle.casefile_defs.specs.declared.Kind.{Kind}
 use Rattle.casefile_defs.specs.declared.Kind.TheVariants.{Bus}
 use Rattle.casefile.specs.Movable.{Kept}
@@ -45,10 +45,10 @@ put_more w o p u v e h =
     ∙ ap (λ (x : List ℕ). x ++ drop (o + length (u ++ v)) w) (append_assoc (take o w) u v)
 
 -- ---- a bus as a record of a kind
-pub length_called : (s : List ℕ) (at : ℕ) → at + 11 ≤ length s → length (called s at) ≡ 9
-length_called s at h = length_part (at + 2) 9 s (omega arith)
+pub length_called : (s : List ℕ) (at : ℕ) → at + size_of Bus ≤ length s → length (called s at) ≡ called_bytes
+length_called s at h = length_part (at + 2) called_bytes s (omega arith)
 
-pub length_bus : (l : Kind) (s : List ℕ) (at : ℕ) → at + 11 ≤ length s → length (bus_as l s at) ≡ 11 + length (weight_of l)
+pub length_bus : (l : Kind) (s : List ℕ) (at : ℕ) → at + size_of Bus ≤ length s → length (bus_as l s at) ≡ size_of Bus + length (weight_of l)
 unfolding bus_as
 length_bus l s at h = let e = length_called s at h in simp length-append (omega arith)
 
@@ -59,30 +59,30 @@ weight_length l = go (weighs l)
     go true = omega arith
     go false = omega arith
 
-pub bus_put : (l : Kind) (s m w w₁ w₂ w₃ : List ℕ) (at to : ℕ) → at + 11 ≤ length s → to + (11 + length (weight_of l)) ≤ length w → m ≡ mark_of l → w₁ ≡ put w to m
-    → w₂ ≡ put w₁ (to + 2) (take (at + 2 + 9 - (at + 2)) (drop (at + 2) s)) → w₃ ≡ put w₂ (to + 11) (weight_of l) → w₃ ≡ put w to (bus_as l s at)
+pub bus_put : (l : Kind) (s m w w₁ w₂ w₃ : List ℕ) (at to : ℕ) → at + size_of Bus ≤ length s → to + (size_of Bus + length (weight_of l)) ≤ length w → m ≡ mark_of l → w₁ ≡ put w to m
+    → w₂ ≡ put w₁ (to + 2) (take (at + 2 + called_bytes - (at + 2)) (drop (at + 2) s)) → w₃ ≡ put w₂ (to + size_of Bus) (weight_of l) → w₃ ≡ put w to (bus_as l s at)
 unfolding bus_as part
 bus_put l s m w w₁ w₂ w₃ at to h k q e₁ e₂ e₃ =
-    let c : length (called s at) ≡ 9 = length_called s at h in
+    let c : length (called s at) ≡ called_bytes = length_called s at h in
     let e : w₁ ≡ put w to (mark_of l) = e₁ ∙ ap (λ (x : List ℕ). put w to x) q in
-    let z : at + 2 + 9 - (at + 2) ≡ 9 = omega arith in
+    let z : at + 2 + called_bytes - (at + 2) ≡ called_bytes = omega arith in
     let a : w₂ ≡ put w to (mark_of l ++ called s at) =
     e₂ ∙ ap (λ (x : ℕ). put w₁ (to + 2) (take x (drop (at + 2) s))) z ∙ ap (λ (x : List ℕ). put x (to + 2) (called s at)) e ∙ put_more w to (to + 2) (mark_of l) (called s at) refl (omega arith) in
-    let n : to + 11 ≡ to + length (mark_of l ++ called s at) = simp length-append (omega arith) in
+    let n : to + size_of Bus ≡ to + length (mark_of l ++ called s at) = simp length-append (omega arith) in
     e₃
-    ∙ ap (λ (x : List ℕ). put x (to + 11) (weight_of l)) a
-    ∙ put_more w to (to + 11) (mark_of l ++ called s at) (weight_of l) n (omega arith)
+    ∙ ap (λ (x : List ℕ). put x (to + size_of Bus) (weight_of l)) a
+    ∙ put_more w to (to + size_of Bus) (mark_of l ++ called s at) (weight_of l) n (omega arith)
     ∙ ap (λ (x : List ℕ). put w to x) (append_assoc (mark_of l) (called s at) (weight_of l))
 
 -- ---- the table, record by record
 module _ (l : Kind) (s : List ℕ) (at : ℕ) where
-  pub length_buses : (n : ℕ) → Kept s at n → length (buses_as l s at n) ≡ n * (11 + length (weight_of l))
+  pub length_buses : (n : ℕ) → Kept s at n → length (buses_as l s at n) ≡ n * (size_of Bus + length (weight_of l))
   unfolding buses_as
   length_buses zero r = omega arith
   length_buses (suc n) r =
       let e = length_buses n (λ i h. r i (omega arith)) in
       let m = length_bus l s (spot Bus s at n) (r n (omega arith)) in
-      let z : suc n * (11 + length (weight_of l)) ≡ n * (11 + length (weight_of l)) + (11 + length (weight_of l)) = omega arith in
+      let z : suc n * (size_of Bus + length (weight_of l)) ≡ n * (size_of Bus + length (weight_of l)) + (size_of Bus + length (weight_of l)) = omega arith in
       simp length-append (omega arith)
 
   pub buses_start : (w : List ℕ) → w ≡ put w at (buses_as l s at 0)
@@ -90,7 +90,7 @@ module _ (l : Kind) (s : List ℕ) (at : ℕ) where
   buses_start w = sym (put_none w at)
 
   -- one record more
-  pub buses_next : (i : ℕ) → spot Bus s at i + 11 ≤ length s → length (buses_as l s at (i + 1)) ≡ length (buses_as l s at i) + (11 + length (weight_of l))
+  pub buses_next : (i : ℕ) → spot Bus s at i + size_of Bus ≤ length s → length (buses_as l s at (i + 1)) ≡ length (buses_as l s at i) + (size_of Bus + length (weight_of l))
   unfolding buses_as
   buses_next i r =
       ap (λ (x : ℕ). length (buses_as l s at x)) (add-one i)
@@ -107,7 +107,7 @@ module _ (l : Kind) (s : List ℕ) (at : ℕ) where
       (λ b. let r = buses_within n i (omega arith) in omega (arith, length-append (buses_as l s at n) (bus_as l s (spot Bus s at n))))
       (eq-or-lt_of_le h)
 
-  pub buses_turn : (w₀ w w' : List ℕ) (i here there : ℕ) → here ≡ spot Bus s at i → there ≡ at + length (buses_as l s at i) → here + 11 ≤ length s
+  pub buses_turn : (w₀ w w' : List ℕ) (i here there : ℕ) → here ≡ spot Bus s at i → there ≡ at + length (buses_as l s at i) → here + size_of Bus ≤ length s
       → at + length (buses_as l s at (i + 1)) ≤ length w₀ → w ≡ put w₀ at (buses_as l s at i) → w' ≡ put w there (bus_as l s here) → w' ≡ put w₀ at (buses_as l s at (i + 1))
   unfolding buses_as
   buses_turn w₀ w w' i here there p q r b e g =

@@ -9,9 +9,9 @@ use native.Mathlib.Numerals.{add-one}
 use native.Mathlib.Omega.{arith}
 use lib.ListN.{length, get_or, set}
 use lib.Seq.{get_or-set_same, get_or-set_other}
-use Rattle.casefile_defs.specs.Layout.{size_of, marked, standing, end_of, spot, word}
+use Rattle.casefile_defs.specs.Layout.{size_of, place_of, marked, standing, end_of, spot, word}
 use Rattle.casefile_defs.specs.declared.Kind.{Kind}
-use Rattle.casefile_defs.specs.Tables.{number_at}
+use Rattle.casefile_defs.specs.Tables.{number_at, cap_field}
 use Rattle.casefile_defs.specs.declared.Kind.TheVariants.{Bus, Corridor, CappedCorridor}
 use Rattle.casefile_defs.proofs.Spots.{standing_least, number_had, number_not}
 use Rattle.casefile_defs.proofs.Words.{word_none, word_more}
@@ -50,14 +50,14 @@ pub number_there : (k : Kind) (s : List ℕ) (at o w x : ℕ) → o + w ≤ size
 number_there k s at o w x h e = number_had k s at o w x (omega (arith, standing_least k s at)) e
 
 module _ (s : List ℕ) (at : ℕ) where
-  pub cap_there : (x : ℕ) → marked CappedCorridor s at ≡ true → at + size_of CappedCorridor ≤ length s → x ≡ get_or s (at + size_of Corridor) 0 → x ≡ cap_at s at
+  pub cap_there : (x : ℕ) → marked CappedCorridor s at ≡ true → at + size_of CappedCorridor ≤ length s → x ≡ get_or s (at + place_of CappedCorridor cap_field) 0 → x ≡ cap_at s at
   cap_there x m h e =
       let r : size_of CappedCorridor ≤ size_of (standing Corridor s at) = subst (λ (b : Bool). size_of CappedCorridor ≤ size_of (cond b CappedCorridor Corridor)) (sym m) (omega arith) in
-      number_had Corridor s at (size_of Corridor) 1 x r
-      (e ∙ (let a : get_or s (at + size_of Corridor) 0 ≡ word 1 (at + size_of Corridor) s =
-      omega (arith, word_more 0 (at + size_of Corridor) s (omega arith), word_none (suc (at + size_of Corridor)) s) in a))
+      let o = place_of CappedCorridor cap_field in
+      let a : get_or s (at + o) 0 ≡ word 1 (at + o) s = omega (arith, word_more 0 (at + o) s (omega arith), word_none (suc (at + o)) s) in
+      number_had Corridor s at o 1 x r (e ∙ a)
 
   pub no_cap : marked CappedCorridor s at ≡ false → 0 ≡ cap_at s at
   no_cap m =
       let r : size_of (standing Corridor s at) < size_of CappedCorridor = subst (λ (b : Bool). size_of (cond b CappedCorridor Corridor) < size_of CappedCorridor) (sym m) (omega arith) in
-      number_not Corridor s at (size_of Corridor) 1 r
+      number_not Corridor s at (place_of CappedCorridor cap_field) 1 r

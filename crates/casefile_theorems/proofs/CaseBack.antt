@@ -40,7 +40,7 @@ use Rattle.std.specs.Prelude.{Ok}
 bits_small : (x : Float) → T (fits binary64 x) → to_bits binary64 x < 256 ^ 8
 bits_small x f = to_bits-lt binary64 x f
 
-mode_small : (m : PlanMode) → (mode_number m < 256) × (leb (mode_number m) 5 ≡ true)
+mode_small : (m : PlanMode) → (mode_number m < 256) × (leb (mode_number m) (mode_number ObserveServing) ≡ true)
 unfolding mode_number
 mode_small Expand = (lit< tt, refl)
 mode_small Reinforce = (lit< tt, refl)
@@ -50,7 +50,7 @@ mode_small ReinforceServing = (lit< tt, refl)
 mode_small ObserveServing = (lit< tt, refl)
 
 pub head_fine : (h : Header) → counts_ok h ≡ true → Fine (layout_of Head).fields (head_row h)
-unfolding Fine
+unfolding Fine mode_number
 head_fine h e =
     let b = small_of h e in
     let t = b.target in

@@ -12,6 +12,7 @@ use lib.Seq.{drop-cons, drop-drop, get_or-drop, ext_get_or}
 use Rattle.loops.proofs.Bools.{both}
 use Rattle.loops.proofs.Scan.{first_all}
 use Rattle.mode.specs.Number.{mode_number}
+use Rattle.mode.specs.declared.PlanMode.TheVariants.{ObserveServing}
 use Rattle.casefile_defs.specs.Layout.{layout_of, size_of, widths_of, field, standing, spot}
 use Rattle.casefile_defs.specs.Reading.{header_of, mode_of, levels, lines, trailing, zero_at}
 use Rattle.casefile_defs.specs.Tables.{levels_at, buses_at, generators_at, corridors_at, lines_at, tables_of}
@@ -110,7 +111,7 @@ zeros_end s at l h =
     ∙ sym (get_or-replicate (length s - at) i 0 0 b'))
 
 -- ---- the header
-mode_forth : (n : ℕ) → n ≤ 5 → mode_number (mode_of n) ≡ n
+mode_forth : (n : ℕ) → n ≤ mode_number ObserveServing → mode_number (mode_of n) ≡ n
 unfolding mode_of mode_number
 mode_forth zero h = refl
 mode_forth (suc zero) h = refl
@@ -121,7 +122,7 @@ mode_forth (suc (suc (suc (suc (suc zero))))) h = refl
 mode_forth (suc (suc (suc (suc (suc (suc n)))))) h = absurd (omega arith)
 
 head_row_lem : (s : List ℕ) → Passed Head s 0 levels_at → (j : ℕ) → j < 7 → field Head j 0 s ≡ head_row (header_of s) j
-unfolding header_of
+unfolding header_of mode_number
 head_row_lem s p zero l = sym (mode_forth (field Head 0 0 s) (leb-true _ 5 (both _ true p.bounds).0))
 head_row_lem s p (suc zero) l = refl
 head_row_lem s p (suc (suc zero)) l = refl

@@ -10,7 +10,7 @@ use lib.ListN.{length, take, drop, replicate, length-drop}
 use Rattle.loops.specs.Parts.{part}
 use Rattle.casefile_defs.specs.Bounds.{most_bytes}
 use Rattle.casefile_defs.specs.Layout.{Field, u8, figure, layout_of, size_of, field, spot}
-use Rattle.casefile_defs.specs.Moving.{called, one_bytes, bus_as, buses_as, file_as, fitted, one_bits}
+use Rattle.casefile_defs.specs.Moving.{called_bytes, called, one_bytes, bus_as, buses_as, file_as, fitted, one_bits}
 use Rattle.casefile_defs.specs.Reading.{levels, lines}
 use Rattle.casefile_defs.specs.Tables.{buses_at, generators_at}
 use Rattle.casefile_defs.specs.declared.Kind.{Kind}
@@ -30,12 +30,12 @@ abbrev pub form_row : (ℕ → ℕ) → ℕ → ℕ
 form_row v = row (v 0 ∷ v 1 ∷ one_bits ∷ [])
 
 -- tier and load, or tier and reading, as they stand
-called_fields : (s : List ℕ) (p : ℕ) → Bytes s → p + 11 ≤ length s → called s p ≡ field_bytes (u8 ∷ figure ∷ []) (form_row (λ j. field Bus j p s))
+called_fields : (s : List ℕ) (p : ℕ) → Bytes s → p + size_of Bus ≤ length s → called s p ≡ field_bytes (u8 ∷ figure ∷ []) (form_row (λ j. field Bus j p s))
 unfolding part
 called_fields s p b h =
     let fs : List Field = u8 ∷ figure ∷ [] in
     let l : List ℕ = drop (p + 2) s in
-    let g : 9 ≤ length l = rw length-drop (omega arith) in
+    let g : called_bytes ≤ length l = rw length-drop (omega arith) in
     sym (fields_same fs (form_row (λ j. field Bus j p s)) (field_in fs l) same ∙ fields_written fs l (drop_bytes (p + 2) s b) g)
   where
     same : (j : ℕ) → j < 2 → form_row (λ j. field Bus j p s) j ≡ field_in (u8 ∷ figure ∷ []) (drop (p + 2) s) j
@@ -43,12 +43,12 @@ called_fields s p b h =
     same (suc zero) m = field_in_lem Bus 1 p s
     same (suc (suc j)) m = absurd (omega arith)
 
-bus_bytes : (w : Bool) (s : List ℕ) (p : ℕ) → Bytes s → p + 11 ≤ length s → bus_as (bus_of w) s p ≡ record_bytes (bus_of w) (form_row (λ j. field Bus j p s))
+bus_bytes : (w : Bool) (s : List ℕ) (p : ℕ) → Bytes s → p + size_of Bus ≤ length s → bus_as (bus_of w) s p ≡ record_bytes (bus_of w) (form_row (λ j. field Bus j p s))
 unfolding bus_as record_bytes field_bytes bytes
 bus_bytes false s p b h = ap (λ (x : List ℕ). 0x42 ∷ 0x55 ∷ x) (append-nil (called s p) ∙ called_fields s p b h)
 bus_bytes true s p b h = ap (λ (x : List ℕ). 0x42 ∷ 0x56 ∷ (x ++ one_bytes)) (called_fields s p b h)
 
-buses_bytes : (w : Bool) (s : List ℕ) (at n : ℕ) → Bytes s → ((i : ℕ) → i < n → spot Bus s at i + 11 ≤ length s)
+buses_bytes : (w : Bool) (s : List ℕ) (at n : ℕ) → Bytes s → ((i : ℕ) → i < n → spot Bus s at i + size_of Bus ≤ length s)
     → buses_as (bus_of w) s at n ≡ table_bytes (λ i. bus_of w) n (λ i. form_row (λ j. field Bus j (spot Bus s at i) s))
 unfolding buses_as table_bytes
 buses_bytes w s at zero b r = refl
@@ -93,7 +93,7 @@ whole_moved w f h v g = record { counts = g.counts; head = g.head; rows = rows }
     rows WeighedBus i c = g.rows WeighedBus i c
 
 -- a bus of either form has the bytes that are kept, and the two fields
-least : (b : Bool) → 11 ≤ size_of (bus_of b)
+least : (b : Bool) → size_of Bus ≤ size_of (bus_of b)
 least true = omega arith
 least false = omega arith
 
@@ -114,7 +114,7 @@ module _ (f : Form) (h : Header) (v : Kind → ℕ → ℕ → ℕ) (n : ℕ) (g
   abbrev s : List ℕ
   s = padded f h v n g
 
-  kept : (i : ℕ) → i < h.buses → spot Bus s (buses_at s h) i + 11 ≤ length s
+  kept : (i : ℕ) → i < h.buses → spot Bus s (buses_at s h) i + size_of Bus ≤ length s
   kept i b = omega (arith, (bus_found f h v n g i b).stands.room, least f.weighed)
 
   row_same : (i j : ℕ) → i < h.buses → form_row (λ m. field Bus m (spot Bus s (buses_at s h) i) s) j ≡ form_row (v Bus i) j

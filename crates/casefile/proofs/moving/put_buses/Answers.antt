@@ -4,7 +4,7 @@ use mathlib.Core.Path.{◌≡◌, ap, ◌∙◌}
 use native.Mathlib.Omega.{arith}
 use lib.ListN.{length}
 use Rattle.loops.specs.Parts.{put}
-use Rattle.casefile_defs.specs.Layout.{spot}
+use Rattle.casefile_defs.specs.Layout.{size_of, spot}
 use Rattle.casefile_defs.specs.Moving.{bus_as, buses_as}
 use Rattle.casefile_defs.specs.declared.Kind.TheVariants.{Bus}
 use Rattle.casefile.specs.Records.{Records}
@@ -24,7 +24,7 @@ put_bus-requires c =
     let m : length c.buses.inside.file.now ≡ length t.file = ap (λ (t : Records). length t.file) c.buses.view_is in
     let n : c.buses.inside.count ≡ t.count = ap (λ (t : Records). t.count) c.buses.view_is in
     let h : i + 1 ≤ t.count = omega (arith, c.loop-i-test.true) in
-    let k : spot Bus t.file t.at i + 11 ≤ length t.file = q.kept i (omega arith) in (
+    let k : spot Bus t.file t.at i + size_of Bus ≤ length t.file = q.kept i (omega arith) in (
       omega (arith, bus_start t i _ q.buses c.start.ensures.place),
       omega (arith, c.loop-i.invariant.there, q.fits, buses_next c.args.kind t.file t.at i k, buses_within c.args.kind t.file t.at t.count (i + 1) h, c.loop-i.auto.out),
     )
@@ -45,7 +45,7 @@ loop-i-preserved c =
     let q = c.requires in
     let n : c.buses.inside.count ≡ t.count = ap (λ (t : Records). t.count) c.buses.view_is in
     let h : i + 1 ≤ t.count = omega (arith, c.loop-i-test.true) in
-    let k : spot Bus t.file t.at i + 11 ≤ length t.file = q.kept i (omega arith) in
+    let k : spot Bus t.file t.at i + size_of Bus ≤ length t.file = q.kept i (omega arith) in
     let here : c.start.result ≡ spot Bus t.file t.at i = bus_start t i _ q.buses c.start.ensures.place in
     record {
       there = omega (arith, c.size-there.ensures, q.whole, c.loop-i.invariant.there, buses_next c.args.kind t.file t.at i k);

@@ -22,7 +22,7 @@ numbered ExpandServing = refl
 numbered ReinforceServing = refl
 numbered ObserveServing = refl
 
-no_number : (n : ℕ) → 5 < n → ObserveServing ≡ mode_of n
+no_number : (n : ℕ) → mode_number ObserveServing < n → ObserveServing ≡ mode_of n
 unfolding mode_of mode_number
 no_number n h =
     sym
@@ -30,6 +30,7 @@ no_number n h =
     (ne_eqb n 0 (λ e. absurd (omega arith)), ne_eqb n 1 (λ e. absurd (omega arith)), ne_eqb n 2 (λ e. absurd (omega arith)), ne_eqb n 3 (λ e. absurd (omega arith)), ne_eqb n 4 (λ e. absurd (omega arith))))
 
 mode_same : (n : ℕ) (r : Result PlanMode UnknownMode) → Numbered n r → result_unwrap_or r ObserveServing ≡ mode_of n
+unfolding mode_number
 mode_same n (Ok m) e = numbered m ∙ ap (λ (k : ℕ). mode_of k) e
 mode_same n (Err e) h = no_number n h.1
 

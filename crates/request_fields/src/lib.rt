@@ -1,16 +1,24 @@
-// The fields of a request: what stands between the spaces of its line. Proved: reading ends, nothing overflows, and a count is no more than
-// the tables have room for. What a field reads as is tested (the program `answers`).
+// The fields of a request: what stands between the spaces of its line. Each function is proved to answer, and to leave, what specs/ says
+// of the fields that are left, whether it takes the request or refuses it.
 #![tactic(auto)]
 
-ghost use Rattle.std.specs.Prelude.{◌≤◌, IfOk};
+ghost use Rattle.std.specs.Prelude.{◌≡◌, ◌+◌, ◌*◌, ◌^◌, ◌==◌, ◌≤◌, List, ℕ, Option, Some, None, IfOk, length, min, take, drop, is_some, ◌++◌, unwrap_or};
+ghost use Rattle.std.specs.Bool.{then_some};
+ghost use Rattle.std.specs.List.{position};
+ghost use Rattle.std.specs.Result.{result_map_both};
+ghost use Rattle.request_fields.specs.Written.{digit_of, number_behind, number_of, bits_of, figure_of, count_of};
+ghost use Rattle.request_fields.specs.Reading.{is_space, fields_of, or_no_request, next_value, next_values, with_value};
 
 use arrayvec::ArrayVec;
+use std::marker::Model;
 use std::num::f64_from_bits_with_nan;
 
 const SPACE: u8 = b' ';
 
-// The most digits of a whole number.
+// The most digits of a whole number, and the digits of bits.
 const MOST_DIGITS: usize = 9;
+
+const BITS_DIGITS: usize = 16;
 
 // The largest count that is taken, so that one past every bound can be asked.
 pub const MOST_COUNT: usize = 400;
@@ -22,62 +30,109 @@ pub type Table<T> = ArrayVec<T, MOST_COUNT>;
 #[derive(Clone, Copy)]
 pub struct NoRequest;
 
-// What one field writes. Each type has a form of its own: one to nine decimal digits, 16 hexadecimal ones, or a figure's bits.
-pub trait Field: Copy + Default {
-    fn read(field: &[u8]) -> Option<Self>;
+fn digit(b: u8) -> u64
+    ensures { result ≡ digit_of b }
+{
+    match b {
+        b'0'..=b'9' => u64::from(b - b'0'),
+        b'A'..=b'F' => u64::from(b - b'A') + 10,
+        _ => 16,
+    }
 }
 
-// A whole number, of one to nine decimal digits.
+// The number that the digits of a base write, most significant first.
+fn number_in(base: u64, field: &[u8]) -> Option<u64>
+    requires { base ^ length field.now ≤ 2 ^ 64 }
+    ensures { result ≡ number_behind base 0 field.now }
+{
+    let mut value = 0;
+    for b in field {
+        let d = digit(*b);
+        if d >= base {
+            return None;
+        }
+        value = base * value + d;
+    }
+    Some(value)
+}
+
+// What one field writes. Each type has a form of its own: one to nine decimal digits, 16 hexadecimal ones, or a figure's bits.
+pub trait Field: Copy + Default {
+    ghost reads: { List ℕ → Option Self };
+
+    fn read(field: &[u8]) -> Option<Self>
+        ensures { result ≡ reads field.now };
+}
+
+// A whole number, of one to nine decimal digits. By digits, since `parse` takes a plus sign as well, and four times as long.
 impl Field for u32 {
+    ghost reads = { number_of };
+
     fn read(field: &[u8]) -> Option<u32> {
         if field.is_empty() || field.len() > MOST_DIGITS {
             return None;
         }
-        // By digits, since `parse` takes a plus sign as well, and four times as long.
-        let mut value = 0;
-        for b in field {
-            let d = char::from(*b).to_digit(10)?;
-            value = 10 * value + d;
-        }
-        Some(value)
+        Some(number_in(10, field)? as u32)
     }
 }
 
 // Bits, as 16 upper-case hexadecimal digits.
 impl Field for u64 {
+    ghost reads = { bits_of };
+
     fn read(field: &[u8]) -> Option<u64> {
-        // The library takes small letters too.
-        if field.iter().any(u8::is_ascii_lowercase) {
+        if field.len() != BITS_DIGITS {
             return None;
         }
-        let mut bytes = [0; 8];
-        hex::decode_to_slice(field, &mut bytes).ok()?;
-        Some(u64::from_be_bytes(bytes))
+        number_in(16, field)
     }
 }
 
 // A figure: its bits.
 impl Field for f64 {
+    ghost reads = { figure_of };
+
     fn read(field: &[u8]) -> Option<f64> {
         Some(f64_from_bits_with_nan(u64::read(field)?))
     }
 }
 
-// What of a line is still to be read; `None` once it is read to its end.
-#[derive(Clone, Copy)]
+fn first_space(text: &[u8]) -> Option<usize>
+    ensures { result ≡ position is_space text.now }
+{
+    text.iter().position(|b| *b == SPACE)
+}
+
+// What of a line is still to be read; `None` once it is read to its end. Contracts see the list of the fields that are left.
+#[derive(Drop)]
 pub struct Fields<'a> {
     rest: Option<&'a [u8]>,
 }
 
+impl<'a> Model for Fields<'a> {
+    ghost use Rattle.std.specs.Prelude.{ℕ, List};
+    ghost use Rattle.std.specs.Option.{option_copied};
+    ghost use Rattle.request_fields.specs.Reading.{fields_left};
+
+    ghost Value = { List (List ℕ) };
+
+    ghost view = { λ f. fields_left (option_copied f.rest) };
+}
+
 impl<'a> Fields<'a> {
-    pub fn of(line: &'a [u8]) -> Fields<'a> {
+    pub fn of(line: &'a [u8]) -> Fields<'a>
+        ensures { result ≡ fields_of line.now }
+    {
         Fields { rest: Some(line) }
     }
 
     // The next field's text, up to the next space or the end of the line.
-    pub fn next_text(&mut self) -> Result<&'a [u8], NoRequest> {
+    pub fn next_text(&mut self) -> Result<&'a [u8], NoRequest>
+        ensures text { result_map_both (λ t. t.now) (λ e. e) result ≡ or_no_request (next_value Some self.old) }
+        ensures left { self.new ≡ drop 1 self.old }
+    {
         let rest = self.rest.ok_or(NoRequest)?;
-        match rest.iter().position(|b| *b == SPACE) {
+        match first_space(rest) {
             Some(end) => {
                 self.rest = Some(&rest[end + 1..]);
                 Ok(&rest[..end])
@@ -90,14 +145,19 @@ impl<'a> Fields<'a> {
     }
 
     // What the next field writes.
-    pub fn read<T: Field>(&mut self) -> Result<T, NoRequest> {
+    pub fn read<T: Field>(&mut self) -> Result<T, NoRequest>
+        ensures value { result ≡ or_no_request (next_value T.reads self.old) }
+        ensures left { self.new ≡ drop 1 self.old }
+    {
         let field = self.next_text()?;
         T::read(field).ok_or(NoRequest)
     }
 
     // The next field, a count.
     pub fn count(&mut self) -> Result<usize, NoRequest>
-        ensures { IfOk result (λ n. n ≤ MOST_COUNT) }
+        ensures value { result ≡ or_no_request (next_value (count_of MOST_COUNT) self.old) }
+        ensures most { IfOk result (λ n. n ≤ MOST_COUNT) }
+        ensures left { self.new ≡ drop 1 self.old }
     {
         let n = self.read::<u32>()? as usize;
         if n > MOST_COUNT {
@@ -110,16 +170,23 @@ impl<'a> Fields<'a> {
     pub fn read_to<T: Field, const N: usize>(
         &mut self,
         table: &mut ArrayVec<T, N>,
-    ) -> Result<(), NoRequest> {
+    ) -> Result<(), NoRequest>
+        ensures ended { result ≡ or_no_request (then_some (is_some (with_value N table.old.items (next_value T.reads self.old))) tt) }
+        ensures table { table.new.items ≡ unwrap_or (with_value N table.old.items (next_value T.reads self.old)) table.old.items }
+        ensures left { self.new ≡ drop 1 self.old }
+    {
         let value = self.read()?;
         table.try_push(value).map_err(|_| NoRequest)
     }
 
-    // The next n fields, a table.
+    // The next n fields, a table. A field that is not read is taken too.
     pub fn table<T: Field, const N: usize>(
         &mut self,
         n: usize,
-    ) -> Result<ArrayVec<T, N>, NoRequest> {
+    ) -> Result<ArrayVec<T, N>, NoRequest>
+        ensures table { let xs = next_values T.reads (min n N) self.old in result ≡ or_no_request (then_some (length xs == n) (record { items = xs })) }
+        ensures left { let xs = next_values T.reads (min n N) self.old in self.new ≡ drop (min n (length xs + 1)) self.old }
+    {
         let mut table = ArrayVec::new();
         for _ in 0..n {
             self.read_to(&mut table)?;
@@ -127,8 +194,12 @@ impl<'a> Fields<'a> {
         Ok(table)
     }
 
-    // Fills a table with the next fields.
-    pub fn fill<T: Field>(&mut self, table: &mut [T]) -> Result<(), NoRequest> {
+    // Fills a table with the next fields. From the first that is not read on the table stays as it was, and that field is taken too.
+    pub fn fill<T: Field>(&mut self, table: &mut [T]) -> Result<(), NoRequest>
+        ensures ended { let xs = next_values T.reads (length table.old) self.old in result ≡ or_no_request (then_some (length xs == length table.old) tt) }
+        ensures table { let xs = next_values T.reads (length table.old) self.old in table.new ≡ xs ++ drop (length xs) table.old }
+        ensures left { let xs = next_values T.reads (length table.old) self.old in self.new ≡ drop (min (length table.old) (length xs + 1)) self.old }
+    {
         for x in table {
             *x = self.read()?;
         }
@@ -136,7 +207,9 @@ impl<'a> Fields<'a> {
     }
 
     // A line is a request only if it is read to its end.
-    pub fn end(self) -> Result<(), NoRequest> {
+    pub fn end(self) -> Result<(), NoRequest>
+        ensures { result ≡ or_no_request (then_some (length self.entry == 0) tt) }
+    {
         match self.rest {
             None => Ok(()),
             Some(_) => Err(NoRequest),

@@ -1,2 +1,3 @@
 mod Digits
 mod Lines
+mod Values

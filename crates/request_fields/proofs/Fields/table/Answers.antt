@@ -1,31 +1,14 @@
-use Rattle.std.proofs.Common.{rules, ◌≡◌, ◌+◌, ◌*◌, ◌^◌, ◌==◌, ◌≤◌, List, ℕ, Option, Some, None, IfOk, length, min, take, drop, is_some, ◌++◌, unwrap_or, ◌-◌, ◌<◌, ◌/◌, ◌%◌, Bool, true, false, nat_eq, nat_lt, [], ◌∷◌, slice_index_or, slice_set, bit_and, bit_or, Fits, w8, w32, w64, Bor, MutBor}
-use Rattle.std.specs.Bool.{then_some}
-use Rattle.std.specs.List.{position}
-use Rattle.std.specs.Result.{result_map_both}
-use Rattle.request_fields.specs.Written.{digit_of, number_behind, number_of, bits_of, figure_of, count_of}
-use Rattle.request_fields.specs.Reading.{is_space, fields_of, or_no_request, next_value, next_values, with_value}
+-- A field was read, or none is: the values so far are then all.
+use Rattle.std.proofs.Common.{◌∙◌}
+use Rattle.request_fields.proofs.Values.{table_more, table_taken}
 use Rattle.request_fields.proofs.Fields.table.Goals as goal
 
--- src/lib.rt:191:9
-pub loop-init : goal.loop-init
-loop-init g c = ?
-
--- src/lib.rt:192:13
-pub returns-in_err-read_to-clause-table : goal.returns-in_err-read_to-clause-table
-returns-in_err-read_to-clause-table g c = ?
-
--- src/lib.rt:192:13
 pub returns-in_err-read_to-clause-left : goal.returns-in_err-read_to-clause-left
-returns-in_err-read_to-clause-left g c = ?
+returns-in_err-read_to-clause-left g c =
+    c.read_to.ensures.left ∙ table_taken g.T.Field.reads c.args.n g.row.N c.args.self.now c.loop.counter c.loop.table.items c.loop.self
+    c.loop.invariant.0 c.loop-test.true _ _ c.loop.invariant.1 c.read_to.ensures.ended c.in_err-read_to.was
 
--- src/lib.rt:191:9
 pub loop-preserved : goal.loop-preserved
-loop-preserved g c = ?
-
--- src/lib.rt:183:5
-pub returns-clause-table : goal.returns-clause-table
-returns-clause-table g c = ?
-
--- src/lib.rt:183:5
-pub returns-clause-left : goal.returns-clause-left
-returns-clause-left g c = ?
+loop-preserved g c =
+    table_more g.T.Field.reads c.args.n g.row.N c.args.self.now c.loop.counter c.loop.table.items c.loop.self
+    c.loop.invariant.0 c.loop-test.true _ _ _ c.in_ok-read_to.ensures.ended c.read_to.ensures.table c.read_to.ensures.left

@@ -1,10 +1,8 @@
-use Rattle.std.proofs.Common.{◌≡◌, ◌+◌, ◌*◌, ◌^◌, ◌==◌, ◌≤◌, List, ℕ, Option, Some, None, IfOk, length, min, take, drop, is_some, ◌++◌, unwrap_or, ◌-◌, ◌<◌}
-use Rattle.std.specs.Bool.{then_some}
-use Rattle.std.specs.List.{position}
-use Rattle.std.specs.Result.{result_map_both}
-use Rattle.request_fields.specs.Written.{digit_of, number_behind, number_of, bits_of, figure_of, count_of}
-use Rattle.request_fields.specs.Reading.{is_space, fields_of, or_no_request, next_value, next_values, with_value}
+-- So many fields were read, and the table has their values.
+use Rattle.std.proofs.Common.{◌≤◌, min}
+use Rattle.request_fields.proofs.Values.{Read}
 use Rattle.request_fields.proofs.Fields.table.Given as goal
 
 abbrev pub invariant-loop : goal.invariant-loop
-invariant-loop g l = ?
+invariant-loop g l =
+    Read g.T.Field.reads (min l.n g.row.N) l.initial.self l.counter l.table.items l.self × (l.counter ≤ g.row.N)

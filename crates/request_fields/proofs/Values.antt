@@ -1,7 +1,8 @@
 -- The values of the next fields, of which some have been read.
-use Rattle.std.proofs.Common.{◌≡◌, ◌+◌, ◌-◌, ◌<◌, ◌≤◌, ◌⊎◌, inl, inr, ℕ, zero, suc, List, [], ◌∷◌, ◌++◌, length, take, drop, map, Option, Some, None, refl, sym, ap, ◌∙◌, arith, append_assoc, append-nil, Bool, true, false, Result, Ok, Err, is_some, unwrap_or, nat_lt, min}
+use Rattle.std.proofs.Common.{◌≡◌, ◌+◌, ◌-◌, ◌<◌, ◌≤◌, ◌⊎◌, inl, inr, ℕ, zero, suc, List, [], ◌∷◌, ◌++◌, length, take, drop, set, map, ◌==◌, Option, Some, None, refl, sym, ap, ◌∙◌, arith, append_assoc, append-nil, add-one, Bool, true, false, Result, Ok, Err, is_some, unwrap_or, nat_lt, min}
 use Rattle.std.proofs.lemmas.Grind.{common_steps}
-use Rattle.std.proofs.lemmas.List.{drop-drop}
+use Rattle.std.proofs.Math.Seq.{take-suc-set}
+use Rattle.std.proofs.lemmas.List.{drop-drop, drop-set-lt, take-append-drop}
 use Rattle.std.specs.Option.{some_prefix}
 use Rattle.std.specs.Bool.{then_some}
 use Rattle.std.proofs.lemmas.Bool.{cases_lt}
@@ -101,3 +102,36 @@ module _ {T : Type 0} (reads : List ℕ → Option T) (n room : ℕ) (before : L
         | inr full ↦ inr (omega (arith, count, full))
       ] in
       Read-taken reads (min n room) before i xs fs n r (Read-stop reads (min n room) before i xs fs r stop) lt
+
+-- What the next field has a value or none, by what a read of it answered.
+value_read : {T : Type 0} (o : Option T) (v : T) → Ok v ≡ or_no_request o → o ≡ Some v
+value_read None v h = cc h
+value_read (Some w) v h = grind (arith, h)
+
+none_read : {T : Type 0} (o : Option T) (q : Result T NoRequest) (e : NoRequest) → q ≡ or_no_request o → q ≡ Err e → o ≡ None
+none_read None q e h k = refl
+none_read (Some w) q e h k = absurd (cc (sym h ∙ k))
+
+module _ {T : Type 0} (reads : List ℕ → Option T) (before : List (List ℕ)) (i : ℕ) (old t : List T) (fs : List (List ℕ)) (r : Read reads (length old) before i (take i t) fs) (same : drop i t ≡ drop i old) (long : length t ≡ length old) (lt : i < length old) where
+  pub fill_more : (v : T) (gs : List (List ℕ)) → Ok v ≡ or_no_request (next_value reads fs) → gs ≡ drop 1 fs
+      → Read reads (length old) before (i + 1) (take (i + 1) (set t i v)) gs × (drop (i + 1) (set t i v) ≡ drop (i + 1) old)
+  fill_more v gs h k =
+      let inside : i < length t = omega arith in
+      let taken : take (i + 1) (set t i v) ≡ take i t ++ v ∷ [] = rw add-one (take-suc-set t i v inside) in
+      let next : i < i + 1 = omega arith in (
+        rw (taken, k) (Read-more reads (length old) before i (take i t) fs v r lt (value_read (next_value reads fs) v h)),
+        drop-set-lt (i + 1) t i v next ∙ sym (drop-drop 1 i t) ∙ ap (drop 1) same ∙ drop-drop 1 i old,
+      )
+
+  module _ (q : Result T NoRequest) (e : NoRequest) (h : q ≡ or_no_request (next_value reads fs)) (k : q ≡ Err e) where
+    fill_stop : next_values reads (length old) before ≡ take i t
+    fill_stop = Read-stop reads (length old) before i (take i t) fs r (inl (none_read (next_value reads fs) q e h k))
+
+    pub fill_table : t ≡ next_values reads (length old) before ++ drop (length (next_values reads (length old) before)) old
+    fill_table = rw (fill_stop, r.count, ← same) (sym (take-append-drop i t))
+
+    pub fill_taken : drop 1 fs ≡ drop (min (length old) (length (next_values reads (length old) before) + 1)) before
+    fill_taken = Read-taken reads (length old) before i (take i t) fs (length old) r fill_stop lt
+
+    pub fill_short : (length (next_values reads (length old) before) == length old) ≡ false
+    fill_short = let count = r.count in rw fill_stop (grind arith)

@@ -1,7 +1,7 @@
 -- A number that grows by digits of a base is below the base's power.
-use Rattle.std.proofs.Common.{◌≡◌, ◌*◌, ◌+◌, ◌^◌, ◌<◌, ◌≤◌, ℕ, List, [], ◌∷◌, length, Option, Some, None, arith, add-zero, zero-add, ap}
+use Rattle.std.proofs.Common.{◌≡◌, ◌*◌, ◌+◌, ◌^◌, ◌<◌, ◌≤◌, ℕ, List, [], ◌∷◌, length, Some, arith, add-zero, zero-add, ap}
 use Rattle.std.proofs.lemmas.Nat.{mul-add-lt}
-use Rattle.std.proofs.lemmas.Grind.{pow_more, common_steps}
+use Rattle.std.proofs.lemmas.Grind.{pow_more}
 use Rattle.std.proofs.Math.Nat.{pow-le-pow_right}
 use Rattle.request_fields.specs.Written.{digit_of, number_behind}
 
@@ -17,7 +17,7 @@ stays_below base value i d n h k j m =
 -- What digits write behind a number of i digits has as many digits more.
 number_behind-lt : (base value i : ℕ) (field : List ℕ) (n : ℕ) → value < base ^ i → number_behind base value field ≡ Some n → n < base ^ (i + length field)
 number_behind-lt base value i [] n h e = rw add-zero (grind arith)
-number_behind-lt base value i (b ∷ field) n h e = 
+number_behind-lt base value i (b ∷ field) n h e =
     let next = number_behind-lt base (base * value + digit_of b) (i + 1) field n in
     let more = one_more base value i (digit_of b) h in
     grind (arith, next, more)

@@ -1,9 +1,8 @@
 -- The fields of a line, one taken off at a time.
-use Rattle.std.proofs.Common.{◌≡◌, ◌+◌, ◌<◌, ◌≤◌, ◌==◌, ℕ, suc, Bool, true, false, List, [], ◌∷◌, length, take, drop, Option, Some, None, Bor, refl, ap, arith, sym, ◌∙◌}
+use Rattle.std.proofs.Common.{◌≡◌, ◌+◌, ◌<◌, ◌≤◌, ◌==◌, ℕ, Bool, false, List, [], ◌∷◌, length, take, drop, Option, Some, None, Bor, refl, ap, arith, sym, ◌∙◌}
 use Rattle.std.proofs.lemmas.Grind.{common_steps}
-use Rattle.std.proofs.lemmas.Bool.{cases_lt}
 use Rattle.std.proofs.lemmas.List.Splits.{slice_split_first, length-slice_split}
-use Rattle.std.specs.List.{position, position_or_len, slice_split, count_by}
+use Rattle.std.specs.List.{position, position_or_len, slice_split}
 use Rattle.std.specs.Option.{option_copied}
 use Rattle.request_fields.specs.Reading.{is_space, fields_of, fields_left}
 

@@ -1,9 +1,8 @@
 -- The values of the next fields, of which some have been read.
-use Rattle.std.proofs.Common.{◌≡◌, ◌+◌, ◌-◌, ◌<◌, ◌≤◌, ◌⊎◌, inl, inr, ℕ, zero, suc, List, [], ◌∷◌, ◌++◌, length, take, drop, set, map, ◌==◌, Option, Some, None, refl, sym, ap, ◌∙◌, arith, append_assoc, append-nil, add-one, Bool, true, false, Result, Ok, Err, is_some, unwrap_or, nat_lt, min}
+use Rattle.std.proofs.Common.{◌≡◌, ◌+◌, ◌-◌, ◌<◌, ◌≤◌, ◌⊎◌, inl, inr, ℕ, zero, suc, List, [], ◌∷◌, ◌++◌, length, take, drop, set, ◌==◌, Option, Some, None, refl, sym, ap, ◌∙◌, arith, append_assoc, append-nil, add-one, false, Result, Ok, Err, is_some, unwrap_or, min}
 use Rattle.std.proofs.lemmas.Grind.{common_steps}
 use Rattle.std.proofs.Math.Seq.{take-suc-set}
 use Rattle.std.proofs.lemmas.List.{drop-drop, drop-set-lt, take-append-drop}
-use Rattle.std.specs.Option.{some_prefix}
 use Rattle.std.specs.Bool.{then_some}
 use Rattle.std.proofs.lemmas.Bool.{cases_lt}
 use Rattle.request_fields.specs.Reading.{next_value, next_values, or_no_request, with_value}
@@ -95,7 +94,7 @@ module _ {T : Type 0} (reads : List ℕ → Option T) (n room : ℕ) (before : L
   pub table_taken : (q : Result Unit NoRequest) (e : NoRequest) → i ≤ room
       → q ≡ or_no_request (then_some (is_some (with_value room xs (next_value reads fs))) tt) → q ≡ Err e
       → drop 1 fs ≡ drop (min n (length (next_values reads (min n room) before) + 1)) before
-  table_taken q e fits h k = 
+  table_taken q e fits h k =
       let count = r.count in
       let stop = elim (put_none room xs (next_value reads fs) q e h k) as (λ _. (next_value reads fs ≡ None) ⊎ (min n room ≤ i)) [
         | inl none ↦ inl none

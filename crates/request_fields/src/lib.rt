@@ -3,11 +3,10 @@
 #![tactic(auto)]
 
 ghost use Rattle.std.specs.Prelude.{◌≡◌, ◌+◌, ◌*◌, ◌^◌, ◌==◌, ◌≤◌, List, ℕ, Option, Some, None, IfOk, length, min, take, drop, is_some, ◌++◌, unwrap_or};
-ghost use Rattle.std.specs.Bool.{then_some};
 ghost use Rattle.std.specs.List.{position};
 ghost use Rattle.std.specs.Result.{result_map_both};
 ghost use Rattle.request_fields.specs.Written.{digit_of, number_behind, number_of, bits_of, figure_of, count_of};
-ghost use Rattle.request_fields.specs.Reading.{is_space, fields_of, or_no_request, next_value, next_values, with_value};
+ghost use Rattle.request_fields.specs.Reading.{is_space, fields_of, left_after, or_no_request, ok_if, next_value, next_values, with_value};
 
 use arrayvec::ArrayVec;
 use std::marker::Model;
@@ -171,21 +170,22 @@ impl<'a> Fields<'a> {
         &mut self,
         table: &mut ArrayVec<T, N>,
     ) -> Result<(), NoRequest>
-        ensures ended { result ≡ or_no_request (then_some (is_some (with_value N table.old.items (next_value T.reads self.old))) tt) }
-        ensures table { table.new.items ≡ unwrap_or (with_value N table.old.items (next_value T.reads self.old)) table.old.items }
+        ensures ended { let put = with_value N table.old.items (next_value T.reads self.old) in
+            result ≡ ok_if (is_some put) tt }
+        ensures items { let put = with_value N table.old.items (next_value T.reads self.old) in
+            table.new.items ≡ unwrap_or put table.old.items }
         ensures left { self.new ≡ drop 1 self.old }
     {
         let value = self.read()?;
         table.try_push(value).map_err(|_| NoRequest)
     }
 
-    // The next n fields, a table. A field that is not read is taken too.
-    pub fn table<T: Field, const N: usize>(
-        &mut self,
-        n: usize,
-    ) -> Result<ArrayVec<T, N>, NoRequest>
-        ensures table { let xs = next_values T.reads (min n N) self.old in result ≡ or_no_request (then_some (length xs == n) (record { items = xs })) }
-        ensures left { let xs = next_values T.reads (min n N) self.old in self.new ≡ drop (min n (length xs + 1)) self.old }
+    // The next n fields, a table.
+    pub fn table<T: Field, const N: usize>(&mut self, n: usize) -> Result<ArrayVec<T, N>, NoRequest>
+        ensures items { let xs = next_values T.reads (min n N) self.old in
+            result ≡ ok_if (length xs == n) (record { items = xs }) }
+        ensures left { let xs = next_values T.reads (min n N) self.old in
+            self.new ≡ left_after n (length xs) self.old }
     {
         let mut table = ArrayVec::new();
         for _ in 0..n {
@@ -194,11 +194,14 @@ impl<'a> Fields<'a> {
         Ok(table)
     }
 
-    // Fills a table with the next fields. From the first that is not read on the table stays as it was, and that field is taken too.
+    // Fills a table with the next fields. What stands behind those that are read stays.
     pub fn fill<T: Field>(&mut self, table: &mut [T]) -> Result<(), NoRequest>
-        ensures ended { let xs = next_values T.reads (length table.old) self.old in result ≡ or_no_request (then_some (length xs == length table.old) tt) }
-        ensures table { let xs = next_values T.reads (length table.old) self.old in table.new ≡ xs ++ drop (length xs) table.old }
-        ensures left { let xs = next_values T.reads (length table.old) self.old in self.new ≡ drop (min (length table.old) (length xs + 1)) self.old }
+        ensures ended { let xs = next_values T.reads (length table.old) self.old in
+            result ≡ ok_if (length xs == length table.old) tt }
+        ensures places { let xs = next_values T.reads (length table.old) self.old in
+            table.new ≡ xs ++ drop (length xs) table.old }
+        ensures left { let xs = next_values T.reads (length table.old) self.old in
+            self.new ≡ left_after (length table.old) (length xs) self.old }
     {
         for x in table {
             *x = self.read()?;
@@ -208,7 +211,7 @@ impl<'a> Fields<'a> {
 
     // A line is a request only if it is read to its end.
     pub fn end(self) -> Result<(), NoRequest>
-        ensures { result ≡ or_no_request (then_some (length self.entry == 0) tt) }
+        ensures { result ≡ ok_if (length self.entry == 0) tt }
     {
         match self.rest {
             None => Ok(()),

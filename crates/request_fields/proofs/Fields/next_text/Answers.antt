@@ -1,7 +1,6 @@
 -- What is left is the line's fields, of which the first is taken off.
-use Rattle.std.proofs.Common.{◌≡◌, ◌∷◌, ◌∙◌, sym, take, drop, refl, arith}
+use Rattle.std.proofs.Common.{◌∙◌, sym, refl, arith}
 use Rattle.std.proofs.lemmas.Grind.{common_steps}
-use Rattle.request_fields.specs.Reading.{fields_of}
 use Rattle.request_fields.proofs.Lines.{left_is, field_ends, last_field}
 use Rattle.request_fields.proofs.Fields.next_text.Goals as goal
 

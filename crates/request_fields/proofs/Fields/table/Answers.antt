@@ -11,4 +11,4 @@ returns-in_err-read_to-clause-left g c =
 pub loop-preserved : goal.loop-preserved
 loop-preserved g c =
     table_more g.T.Field.reads c.args.n g.row.N c.args.self.now c.loop.counter c.loop.table.items c.loop.self
-    c.loop.invariant.0 c.loop-test.true _ _ _ c.in_ok-read_to.ensures.ended c.read_to.ensures.table c.read_to.ensures.left
+    c.loop.invariant.0 c.loop-test.true _ _ _ c.in_ok-read_to.ensures.ended c.read_to.ensures.items c.read_to.ensures.left

@@ -5,10 +5,8 @@ use Rattle.request_fields.proofs.Fields.table.Goals as goal
 
 pub returns-in_err-read_to-clause-left : goal.returns-in_err-read_to-clause-left
 returns-in_err-read_to-clause-left g c =
-    c.read_to.ensures.left ∙ table_taken g.T.Field.reads c.args.n g.row.N c.args.self.now c.loop.counter c.loop.table.items c.loop.self
-    c.loop.invariant.0 c.loop-test.true _ _ c.loop.invariant.1 c.read_to.ensures.ended c.in_err-read_to.was
+    c.read_to.ensures.left ∙ table_taken c.args.n g.row.N c.loop.invariant.0 c.loop-test.true _ _ c.read_to.ensures.ended c.in_err-read_to.was
 
 pub loop-preserved : goal.loop-preserved
 loop-preserved g c =
-    table_more g.T.Field.reads c.args.n g.row.N c.args.self.now c.loop.counter c.loop.table.items c.loop.self
-    c.loop.invariant.0 c.loop-test.true _ _ _ c.in_ok-read_to.ensures.ended c.read_to.ensures.items c.read_to.ensures.left
+    table_more c.args.n g.row.N c.loop.invariant.0 c.loop-test.true _ _ _ c.in_ok-read_to.ensures.ended c.read_to.ensures.items c.read_to.ensures.left

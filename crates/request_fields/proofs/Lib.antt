@@ -1,3 +1,4 @@
 mod Digits
+mod Bits
 mod Lines
 mod Values

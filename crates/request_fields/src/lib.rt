@@ -3,9 +3,10 @@
 #![tactic(auto)]
 
 ghost use Rattle.std.specs.Prelude.{◌≡◌, ◌+◌, ◌*◌, ◌^◌, ◌==◌, ◌≤◌, List, ℕ, Option, Some, None, IfOk, length, min, take, drop, is_some, ◌++◌, unwrap_or};
-ghost use Rattle.std.specs.List.{position};
+ghost use Rattle.std.specs.Char.{is_ascii_lowercase};
+ghost use Rattle.std.specs.List.{list_any, position};
 ghost use Rattle.std.specs.Result.{result_map_both};
-ghost use Rattle.request_fields.specs.Written.{digit_of, number_behind, number_of, bits_of, figure_of, count_of};
+ghost use Rattle.request_fields.specs.Written.{number_of, bits_of, figure_of, count_of};
 ghost use Rattle.request_fields.specs.Reading.{is_space, fields_of, left_after, or_no_request, ok_if, next_value, next_values, with_value};
 
 use arrayvec::ArrayVec;
@@ -14,10 +15,8 @@ use std::num::f64_from_bits_with_nan;
 
 const SPACE: u8 = b' ';
 
-// The most digits of a whole number, and the digits of bits.
+// The most digits of a whole number.
 const MOST_DIGITS: usize = 9;
-
-const BITS_DIGITS: usize = 16;
 
 // The largest count that is taken, so that one past every bound can be asked.
 pub const MOST_COUNT: usize = 400;
@@ -29,32 +28,6 @@ pub type Table<T> = ArrayVec<T, MOST_COUNT>;
 #[derive(Clone, Copy)]
 pub struct NoRequest;
 
-fn digit(b: u8) -> u64
-    ensures { result ≡ digit_of b }
-{
-    match b {
-        b'0'..=b'9' => u64::from(b - b'0'),
-        b'A'..=b'F' => u64::from(b - b'A') + 10,
-        _ => 16,
-    }
-}
-
-// The number that the digits of a base write, most significant first.
-fn number_in(base: u64, field: &[u8]) -> Option<u64>
-    requires { base ^ length field.now ≤ 2 ^ 64 }
-    ensures { result ≡ number_behind base 0 field.now }
-{
-    let mut value = 0;
-    for b in field {
-        let d = digit(*b);
-        if d >= base {
-            return None;
-        }
-        value = base * value + d;
-    }
-    Some(value)
-}
-
 // What one field writes. Each type has a form of its own: one to nine decimal digits, 16 hexadecimal ones, or a figure's bits.
 pub trait Field: Copy + Default {
     ghost reads: { List ℕ → Option Self };
@@ -63,7 +36,7 @@ pub trait Field: Copy + Default {
         ensures { result ≡ reads field.now };
 }
 
-// A whole number, of one to nine decimal digits. By digits, since `parse` takes a plus sign as well, and four times as long.
+// A whole number, of one to nine decimal digits.
 impl Field for u32 {
     ghost reads = { number_of };
 
@@ -71,8 +44,20 @@ impl Field for u32 {
         if field.is_empty() || field.len() > MOST_DIGITS {
             return None;
         }
-        Some(number_in(10, field)? as u32)
+        // By digits, since `parse` takes a plus sign as well, and four times as long.
+        let mut value = 0;
+        for b in field {
+            let d = char::from(*b).to_digit(10)?;
+            value = 10 * value + d;
+        }
+        Some(value)
     }
+}
+
+fn has_lowercase(text: &[u8]) -> bool
+    ensures { result ≡ list_any is_ascii_lowercase text.now }
+{
+    text.iter().any(u8::is_ascii_lowercase)
 }
 
 // Bits, as 16 upper-case hexadecimal digits.
@@ -80,10 +65,13 @@ impl Field for u64 {
     ghost reads = { bits_of };
 
     fn read(field: &[u8]) -> Option<u64> {
-        if field.len() != BITS_DIGITS {
+        // The library takes small letters too.
+        if has_lowercase(field) {
             return None;
         }
-        number_in(16, field)
+        let mut bytes = [0; 8];
+        hex::decode_to_slice(field, &mut bytes).ok()?;
+        Some(u64::from_be_bytes(bytes))
     }
 }
 

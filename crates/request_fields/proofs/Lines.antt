@@ -17,15 +17,15 @@ one_part p [] h = refl
 one_part p (x ∷ xs) h = let e = one_part p xs in grind (arith, common_steps)
 
 -- A field ends at the first space.
-pub field_ends : (line : List ℕ) (end : ℕ) → position is_space line ≡ Some end → fields_of line ≡ take end line ∷ fields_of (drop (end + 1) line)
+pub field_ends : (line : List ℕ) (end : ℕ) → Some end ≡ position is_space line → fields_of line ≡ take end line ∷ fields_of (drop (end + 1) line)
 field_ends line end h =
-    let e = position_is is_space line end h in
+    let e = position_is is_space line end (sym h) in
     let s = slice_split_first is_space line 0 (grind (arith, e)) in
     grind (arith, e, s)
 
 -- Without a space the line is one field.
-pub last_field : (line : List ℕ) → position is_space line ≡ None → fields_of line ≡ line ∷ []
-last_field line h = one_part is_space line (position_none is_space line h)
+pub last_field : (line : List ℕ) → None ≡ position is_space line → fields_of line ≡ line ∷ []
+last_field line h = one_part is_space line (position_none is_space line (sym h))
 
 -- A line has a field at least.
 pub some_field : (line : List ℕ) → (length (fields_of line) == 0) ≡ false

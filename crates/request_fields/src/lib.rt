@@ -2,7 +2,7 @@
 // of the fields that are left, whether it takes the request or refuses it.
 #![tactic(auto)]
 
-ghost use Rattle.std.specs.Prelude.{◌≡◌, ◌+◌, ◌*◌, ◌^◌, ◌==◌, ◌≤◌, List, ℕ, Option, Some, None, IfOk, length, min, take, drop, is_some, ◌++◌, unwrap_or};
+ghost use Rattle.std.specs.Prelude.{◌≡◌, ◌==◌, ◌≤◌, ◌++◌, List, ℕ, Option, Some, IfOk, length, min, drop, is_some, unwrap_or};
 ghost use Rattle.std.specs.Char.{is_ascii_lowercase};
 ghost use Rattle.std.specs.List.{list_any, position};
 ghost use Rattle.std.specs.Result.{result_map_both};

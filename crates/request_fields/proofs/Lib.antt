@@ -2,3 +2,4 @@ mod Digits
 mod Bits
 mod Lines
 mod Values
+mod Examples

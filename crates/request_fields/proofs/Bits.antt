@@ -1,4 +1,4 @@
--- Without small letters the kit's decoding of hexadecimal pairs reads what `bits_of` says.
+-- Without small letters the kit's decoding of hexadecimal pairs reads what `bits_of` says: pair by pair, each byte is two digits more.
 use Rattle.std.proofs.Common.{◌≡◌, ◌+◌, ◌*◌, ◌<◌, ◌≤◌, ◌%◌, ◌/◌, inl, inr, ℕ, true, false, List, [], ◌∷◌, length, Option, Some, None, Result, Ok, Err, refl, sym, ap, ◌∙◌, arith}
 use Rattle.std.specs.Prelude.{MatchResult}
 use Rattle.std.specs.Char.{is_ascii_lowercase}
@@ -104,16 +104,16 @@ sized s h =
     ]
 
 -- What the decoding says of its answer and of the bytes.
-abbrev Written : Result (List ℕ) FromHexError → Result Unit FromHexError → List ℕ → Type 0
-Written d r out = MatchResult d (λ bytes. (r ≡ Ok tt) × (out ≡ bytes)) (λ e. r ≡ Err e)
+abbrev Answers : Result (List ℕ) FromHexError → Result Unit FromHexError → List ℕ → Type 0
+Answers d r out = MatchResult d (λ bytes. (r ≡ Ok tt) × (out ≡ bytes)) (λ e. r ≡ Err e)
 
 at_ok : (d : Result (List ℕ) FromHexError) (r : Result Unit FromHexError) (out : List ℕ) (o : Option ℕ) (u : Unit {0})
-    → Written d r out → Decodes 0 d o → Some u ≡ result_ok r → o ≡ Some (big_endian 0 out)
+    → Answers d r out → Decodes 0 d o → Some u ≡ result_ok r → o ≡ Some (big_endian 0 out)
 at_ok (Ok bytes) r out o u w d k = rw w.1 d
 at_ok (Err x) r out o u w d k = absurd (cc (k ∙ ap result_ok w))
 
 at_err : (d : Result (List ℕ) FromHexError) (r : Result Unit FromHexError) (out : List ℕ) (o : Option ℕ)
-    → Written d r out → Decodes 0 d o → None ≡ result_ok r → o ≡ None
+    → Answers d r out → Decodes 0 d o → None ≡ result_ok r → o ≡ None
 at_err (Ok bytes) r out o w d k = absurd (cc (k ∙ ap result_ok w.0))
 at_err (Err x) r out o w d k = d
 
@@ -132,9 +132,9 @@ eight (a ∷ b ∷ c ∷ d ∷ e ∷ f ∷ g ∷ i ∷ j ∷ s) h = absurd (omeg
 
 -- What the decoding puts into eight bytes, and where it fails.
 pub bits_read : (s out : List ℕ) (r : Result Unit FromHexError) (u : Unit {0}) → list_any is_ascii_lowercase s ≡ false
-    → Written (decode_sized s 8) r out → Some u ≡ result_ok r → length out ≡ 8 → Some (from_be_bytes w64 out) ≡ bits_of s
+    → Answers (decode_sized s 8) r out → Some u ≡ result_ok r → length out ≡ 8 → Some (from_be_bytes w64 out) ≡ bits_of s
 bits_read s out r u h w k len = ap Some (eight out len) ∙ sym (at_ok (decode_sized s 8) r out (bits_of s) u w (sized s h) k)
 
 pub none_read : (s out : List ℕ) (r : Result Unit FromHexError) → list_any is_ascii_lowercase s ≡ false
-    → Written (decode_sized s 8) r out → None ≡ result_ok r → None ≡ bits_of s
+    → Answers (decode_sized s 8) r out → None ≡ result_ok r → None ≡ bits_of s
 none_read s out r h w k = sym (at_err (decode_sized s 8) r out (bits_of s) w (sized s h) k)

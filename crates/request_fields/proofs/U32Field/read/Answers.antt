@@ -1,3 +1,4 @@
+-- A number of so many digits has room for one more.
 use Rattle.std.proofs.Common.{◌<◌, arith}
 use Rattle.request_fields.proofs.Digits.{stays_below}
 use Rattle.request_fields.proofs.U32Field.read.Goals as goal

@@ -1,3 +1,4 @@
+-- A small letter is no digit; what else is read is what the kit's decoding put into the eight bytes.
 use Rattle.std.proofs.Common.{sym, ap, Some, ◌∙◌}
 use Rattle.request_fields.proofs.Bits.{no_bits, bits_read, none_read}
 use Rattle.request_fields.proofs.U64Field.read.Goals as goal

@@ -80,15 +80,21 @@ module _ {T : Type 0} {reads : List ℕ → Option T} (n room : ℕ) {before : L
       let more : i < min n room = omega (arith, count, fits) in
       (rw (e, put.3, k) (read_more r put.0 more put.1), omega (arith, count, fits))
 
-  pub table_taken : (q : Result Unit NoRequest) (e : NoRequest) → q ≡ ok_if (is_some (with_value room xs (next_value reads fs))) tt → q ≡ Err e
-      → drop 1 fs ≡ left_after n (length (next_values reads (min n room) before)) before
-  table_taken q e h k =
-      let count = r.count in
-      let stop = elim (put_none room xs (next_value reads fs) q e h k) as (λ _. (next_value reads fs ≡ None) ⊎ (min n room - i ≡ 0)) [
-        | inl none ↦ inl none
-        | inr full ↦ inr (omega (arith, count, full))
-      ] in
-      one_taken r n (all_read r stop) lt
+  module _ (q : Result Unit NoRequest) (e : NoRequest) (h : q ≡ ok_if (is_some (with_value room xs (next_value reads fs))) tt) (k : q ≡ Err e) where
+    all_put : next_values reads (min n room) before ≡ xs
+    all_put =
+        let count = r.count in
+        let stop = elim (put_none room xs (next_value reads fs) q e h k) as (λ _. (next_value reads fs ≡ None) ⊎ (min n room - i ≡ 0)) [
+          | inl none ↦ inl none
+          | inr full ↦ inr (omega (arith, count, full))
+        ] in
+        all_read r stop
+
+    pub table_ended : (length (next_values reads (min n room) before) == n) ≡ false
+    table_ended = let count = r.count in rw all_put (grind arith)
+
+    pub table_taken : drop 1 fs ≡ left_after n (length (next_values reads (min n room) before)) before
+    table_taken = one_taken r n all_put lt
 
 -- ---- a table that is filled
 

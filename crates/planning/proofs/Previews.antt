@@ -1,5 +1,6 @@
 -- The preview over slices: the scans look at as many places as there are corridors, what passes can be filled anew, and so filled it is the defined preview.
 use Rattle.std.proofs.Common.{◌≡◌, ℕ, ◌<◌, Bool, true, eqb, List, [], ◌∷◌, length, get_or, sym, refl, ap, ◌∙◌, subst, arith, eqb-true}
+use Rattle.std.proofs.lemmas.List.Elements.{All-from_get_or}
 use Rattle.loops.specs.Loops.{fault}
 use Rattle.loops.specs.Verdict.{fact, each_row}
 use Rattle.loops.proofs.Bools.{both}
@@ -59,12 +60,12 @@ refillable p target lent e =
     let s = sound_of p target (length lent) (sym e) in (
       s.fills,
       record {
-        few = omega (arith, s.before, s.few_corridors);
-        order_size = s.order ∙ sym s.before;
-        cap_size = s.cap ∙ sym s.before;
+        fillable = record {
+          named = All-from_get_or (λ j. j < length p.before) p.order 0 (λ j h. subst (λ (n : ℕ). get_or p.order j 0 < n) (sym s.before) (s.named j h));
+          cap_size = s.cap ∙ sym s.before;
+        };
+        counted = record { few = omega (arith, s.before, s.few_corridors); each = λ k h. (s.counts k (omega (arith, s.before))).1 };
         circuits_size = s.places_are ∙ sym s.before;
-        counts = λ k h. (s.counts k (omega (arith, s.before))).1;
-        named = λ j h. subst (λ (n : ℕ). get_or p.order j 0 < n) (sym s.before) (s.named j h);
       },
     )
 

@@ -235,18 +235,20 @@ module _ (mode : PlanMode) (target above : ℕ) (grid : GridColumns) (tier : Lis
           -- what is lent on
           module _ (f : length injection' ≡ length tier) (upsized : List ℕ) (z : upsized ≡ replicate (length grid.a) 0) where
             -- what the later stages ask
-            pub opened_asks : (banks floors : List Float) (marks : List ℕ) → length circuits' ≡ length circuits → length banks ≡ length grid.a
+            pub opened_plannable : (banks floors : List Float) (marks : List ℕ) → length circuits' ≡ length circuits → length banks ≡ length grid.a
                 → floors ≡ replicate (length grid.a) nought → length marks ≡ length tier
                 → Plannable grid level' supply (opened_of leader' (take (count - 0) ground') injection') circuits' banks floors upsized marks angle flow
-                × Closable above grid.ladder grid.a leader' upsized angle rate added
-            opened_asks banks floors marks g b u a =
+            opened_plannable banks floors marks g b u a =
                 let k = opens_by h.whole h.sound in
-                let n = e ∙ h.sound.tier_size in
-                let l = h.lengths in (
-                  plannable_by (C h.whole) target h.sound leader' injection' count ground' mw' level' circuits' k grid.sheet refl refl banks floors upsized marks angle flow n
-                      (g ∙ l.circuits) (b ∙ h.sound.a_size) u z (a ∙ h.sound.tier_size) l.angle l.flow,
-                  closable_by (C h.whole) target h.sound leader' injection' count ground' mw' level' circuits' k upsized angle rate added n z l.angle l.rate l.added,
-                )
+                let l = h.lengths in
+                plannable_by (C h.whole) target h.sound leader' injection' count ground' mw' level' circuits' k grid.sheet refl refl banks floors upsized marks angle flow (e ∙ h.sound.tier_size)
+                  (g ∙ l.circuits) (b ∙ h.sound.a_size) u z (a ∙ h.sound.tier_size) l.angle l.flow
+
+            pub opened_closable : Closable above grid.ladder grid.a leader' upsized angle rate added
+            opened_closable =
+                let k = opens_by h.whole h.sound in
+                let l = h.lengths in
+                closable_by (C h.whole) target h.sound leader' injection' count ground' mw' level' circuits' k upsized angle rate added (e ∙ h.sound.tier_size) z l.angle l.rate l.added
 
             pub stages_plan : (circuits'' : List ℕ) (flow'' rate'' angle'' : List Float) (level'' : List ℕ) (added'' : List Float) (x : Result PlanRun Refusal)
                 → OpenedPlan mode target above grid level' supply (opened_of leader' (take (count - 0) ground') injection') circuits'

@@ -1,8 +1,8 @@
 -- What the contracts of module preview cite: what a plan keeps, of which a scan reads one column or two, and what filling anew asks of them.
-use Rattle.std.specs.Prelude.{◌≡◌, ℕ, ◌<◌, ◌≤◌, List, [], length, slice_index}
+use Rattle.std.specs.Prelude.{◌≡◌, ℕ, List, [], length}
 use Rattle.mode.specs.declared.PlanMode.TheVariants.{Expand}
-use Rattle.plan_defs.specs.Constants.{most_corridors, most_initial}
 use Rattle.plan_defs.specs.Preview.{Kept, kept_as}
+use Rattle.planning.specs.Fill.{Fillable, Counted}
 
 abbrev pub counts_for : List ℕ → List ℕ → Kept
 counts_for before cap = kept_as Expand (length before) before [] cap
@@ -12,9 +12,6 @@ order_for order = kept_as Expand (length order) [] order []
 
 -- a place for each corridor in all four, counts of at most 64, and places that name corridors
 pub record Refillable (before order cap circuits : List ℕ) : Type 0 where
-  pub few : length before ≤ most_corridors
-  pub order_size : length order ≡ length before
-  pub cap_size : length cap ≡ length before
+  pub fillable : Fillable order cap before
+  pub counted : Counted before
   pub circuits_size : length circuits ≡ length before
-  pub counts : (k : ℕ) → k < length before → slice_index before k ≤ most_initial
-  pub named : (j : ℕ) → j < length order → slice_index order j < length before

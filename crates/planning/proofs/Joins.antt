@@ -242,7 +242,7 @@ module _ (mode : PlanMode) (target above : ℕ) (grid : GridColumns) (tier : Lis
                 let k = opens_by h.whole h.sound in
                 let l = h.lengths in
                 plannable_by (C h.whole) target h.sound leader' injection' count ground' mw' level' circuits' k grid.sheet refl refl banks floors upsized marks angle flow (e ∙ h.sound.tier_size)
-                  (g ∙ l.circuits) (b ∙ h.sound.a_size) u z (a ∙ h.sound.tier_size) l.angle l.flow
+                (g ∙ l.circuits) (b ∙ h.sound.a_size) u z (a ∙ h.sound.tier_size) l.angle l.flow
 
             pub opened_closable : Closable above grid.ladder grid.a leader' upsized angle rate added
             opened_closable =

@@ -43,12 +43,12 @@ module _ (p : Kept) (target places : ℕ) (x : lengths_ok p places ≡ true) (y 
   refused_order j v =
       let s = fault_some (place_ok p) p.corridors j v in
       first_that_fails
-        (fact (lengths_ok p places) Length ∷ fact (counts_ok p target) Count ∷ fact (promote p.mode) Mode ∷ each_row (count_ok p) Corridor p.corridors ∷ [])
-        (each_row (place_ok p) Order p.corridors)
-        []
-        (Order j)
-        (x, (y, (z, (rows_pass (count_ok p) u, tt))))
-        (subst (λ (i : ℕ). i < p.corridors) s.0 s.1, ap Order s.0)
+      (fact (lengths_ok p places) Length ∷ fact (counts_ok p target) Count ∷ fact (promote p.mode) Mode ∷ each_row (count_ok p) Corridor p.corridors ∷ [])
+      (each_row (place_ok p) Order p.corridors)
+      []
+      (Order j)
+      (x, (y, (z, (rows_pass (count_ok p) u, tt))))
+      (subst (λ (i : ℕ). i < p.corridors) s.0 s.1, ap Order s.0)
 
   pub passed : None ≡ fault (place_ok p) p.corridors → no_refusal ≡ preview_check p target places
   unfolding preview_tests

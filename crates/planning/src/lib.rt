@@ -158,6 +158,7 @@ pub fn plan_corridors(
 
 // The circuits that each of m corridors of a plan would have with another target, from what the plan keeps (`before`, `order` and
 // `kept_cap` of `plan_corridors`). A refusal touches nothing.
+#[tactic(auto, using(crate::proofs::Previews::refillable), unfolding(plan_defs::specs::Preview::preview, plan_defs::specs::Preview::refilled))]
 pub fn preview_filling(
     mode: PlanMode,
     target: u32,

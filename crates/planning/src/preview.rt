@@ -44,7 +44,7 @@ fn faulty_place(order: &[u32]) -> Option<usize>
 }
 
 // ---- all of them
-#[tactic(auto, using(loops::proofs::Scan::fault_some, loops::proofs::Scan::fault_passed), unfolding(plan_defs::specs::Preview::preview_tests, plan_defs::specs::Preview::lengths_ok))]
+#[tactic(auto, using(loops::proofs::Scan::fault_some, loops::proofs::Scan::fault_passed, crate::proofs::Previews::counts_scan, crate::proofs::Previews::places_scan), unfolding(plan_defs::specs::Preview::preview_tests, plan_defs::specs::Preview::lengths_ok))]
 pub fn check(
     mode: PlanMode,
     target: u32,
@@ -75,6 +75,7 @@ pub fn check(
 }
 
 // ---- the circuits for a target
+#[tactic(auto, unfolding(plan_defs::specs::Preview::refilled, plan_defs::specs::Fill::fill, plan_defs::specs::Case::full_at))]
 pub fn refill(
     mode: PlanMode,
     target: u32,

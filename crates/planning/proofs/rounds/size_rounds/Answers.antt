@@ -83,39 +83,3 @@ pub returns-else-moved-s : goal.returns-else-moved-s
 returns-else-moved-s c =
     let stiffened = stiffens_turn c.loop-i.invariant.4 c.loop-i-test.true c.stiffen_led.ensures c.in-Ok.is in
     run_of c.requires.places.leader_size (search rules) (stiffens_rested stiffened (omega (arith, c.if-i-opened.true)) c.raise_marked-moved-then-i-opened.ensures c.if-moved-s.false)
-
-pub rounds-init : goal.rounds-init
-rounds-init c = ?
-
-pub draw_edges-e-requires : goal.draw_edges-e-requires
-draw_edges-e-requires c = ?
-
-pub peak_state-requires-clause-sizes : goal.peak_state-requires-clause-sizes
-peak_state-requires-clause-sizes c = ?
-
-pub peak_state-requires-clause-lent : goal.peak_state-requires-clause-lent
-peak_state-requires-clause-lent c = ?
-
-pub size_corridor-t-requires : goal.size_corridor-t-requires
-size_corridor-t-requires c = ?
-
-pub limits_of-g-requires : goal.limits_of-g-requires
-limits_of-g-requires c = ?
-
-pub first_tally-s-requires : goal.first_tally-s-requires
-first_tally-s-requires c = ?
-
-pub rounds-preserved : goal.rounds-preserved
-rounds-preserved c = ?
-
-pub stiffen_led-requires-clause-stiffenable : goal.stiffen_led-requires-clause-stiffenable
-stiffen_led-requires-clause-stiffenable c = ?
-
-pub overflow_add-p : goal.overflow_add-p
-overflow_add-p c = ?
-
-pub overflow_add-p-then-moved-t : goal.overflow_add-p-then-moved-t
-overflow_add-p-then-moved-t c = ?
-
-pub overflow_add-p-then-i-opened : goal.overflow_add-p-then-i-opened
-overflow_add-p-then-i-opened c = ?

@@ -10,7 +10,7 @@ counts_for before cap = kept_as Expand (length before) before [] cap
 abbrev pub order_for : List ℕ → Kept
 order_for order = kept_as Expand (length order) [] order []
 
--- a place for each corridor in all four, counts of at most 64, and places that name corridors
+-- what filling asks of the counts before it, which it begins with, and a lent place for each corridor
 pub record Refillable (before order cap circuits : List ℕ) : Type 0 where
   pub fillable : Fillable order cap before
   pub counted : Counted before

@@ -84,7 +84,7 @@ impl AnswerLine {
     // A space and 16 upper-case hexadecimal digits.
     pub fn bits(&mut self, x: u64) {
         let mut field = [b' '; BITS_FIELD];
-        let _ = hex::encode_to_slice(x.to_be_bytes(), &mut field[1..]);
+        hex::encode_to_slice(x.to_be_bytes(), &mut field[1..]).unwrap();
         field.make_ascii_uppercase();
         let _ = self.bytes.write(&field);
     }

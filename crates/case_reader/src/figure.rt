@@ -16,7 +16,7 @@ pub fn write_figure<W: Write>(to: &mut W, figure: f64) -> io::Result<()> {
         figure.to_bits()
     };
     let mut field = [b' '; FIELD];
-    let _ = hex::encode_to_slice(bits.to_be_bytes(), &mut field[1..]);
+    hex::encode_to_slice(bits.to_be_bytes(), &mut field[1..]).unwrap();
     field.make_ascii_uppercase();
     to.write_all(&field)
 }

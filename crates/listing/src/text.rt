@@ -23,9 +23,10 @@ const MOST_LINES: usize = MOST_LEVELS
 
 const MOST_TEXT: usize = PLAN_ROOM + LINE_ROOM * MOST_LINES;
 
-// The hexadecimal digits of a figure, and the most digits of a number.
+// The hexadecimal digits of a figure.
 const FIGURE_DIGITS: usize = 16;
 
+// The most digits of a number.
 const NUMBER_DIGITS: usize = 20;
 
 #[derive(Drop)]

@@ -41,7 +41,9 @@ fn hand_out(res: &mut [f64], w: &mut [f64], n: usize) -> Option<usize>
         w.fill(0.0);
         return Some(bus);
     }
-    res.copy_from_slice(&w[X * n..X * n + n]);
+    // Not by `copy_from_slice`, with which the archive for C would need `memmove` from outside.
+    let angles = &w[X * n..X * n + n];
+    loops::fill(res, |i| angles[i]);
     w.fill(0.0);
     None
 }

@@ -5,9 +5,13 @@ use refusal::Refusal;
 use request_fields::NoRequest;
 use std::io;
 use std::io::Write;
+use streams::write_field;
 
 // Every answer is shorter: the longest, of SHEET or LAID with as many corridors and levels as there may be, has 108,802 bytes.
 const MOST_ANSWER: usize = 131_072;
+
+// A space and 16 digits.
+const BITS_FIELD: usize = 17;
 
 // Why a line is not answered with `OK`: two ways to fail, each with an answer of its own.
 #[derive(Clone, Copy)]
@@ -74,12 +78,15 @@ impl AnswerLine {
 
     // A space and a decimal number.
     pub fn number(&mut self, x: usize) {
-        let _ = write!(self.bytes, " {x}");
+        let _ = write_field(&mut self.bytes, x as u64);
     }
 
     // A space and 16 upper-case hexadecimal digits.
     pub fn bits(&mut self, x: u64) {
-        let _ = write!(self.bytes, " {x:016X}");
+        let mut field = [b' '; BITS_FIELD];
+        hex::encode_to_slice(x.to_be_bytes(), &mut field[1..]).unwrap();
+        field.make_ascii_uppercase();
+        let _ = self.bytes.write(&field);
     }
 
     pub fn field<T: Put>(&mut self, x: T) {

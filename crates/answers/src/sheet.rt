@@ -12,10 +12,18 @@ const CORRIDORS: usize = MOST_CORRIDORS + 1;
 
 pub const MOST_FIGURES: usize = ROW_FIGURES * LEVELS * CORRIDORS;
 
-// A sheet, behind the number of its figures.
-pub fn read_sheet(fields: &mut Fields) -> Result<ArrayVec<f64, MOST_FIGURES>, NoRequest> {
-    let figures: u32 = fields.read()?;
-    fields.table(figures as usize)
+// A sheet, behind the number of its figures, at the start of a lent table: a vector of so many figures would be moved at each `?`.
+pub fn read_sheet<'t>(
+    fields: &mut Fields,
+    table: &'t mut [f64; MOST_FIGURES],
+) -> Result<&'t [f64], NoRequest> {
+    let figures = fields.read::<u32>()? as usize;
+    if figures > MOST_FIGURES {
+        return Err(NoRequest);
+    }
+    let sheet = &mut table[..figures];
+    fields.fill(sheet)?;
+    Ok(sheet)
 }
 
 // SHEET levels kv×levels corridors (km spread)×corridors

@@ -3,11 +3,12 @@ ghost use Rattle.std.specs.Prelude.{◌≡◌, ◌<◌, ◌≤◌, length};
 ghost use Rattle.casefile_defs.specs.Bounds.{most_levels};
 ghost use Rattle.sheets.specs.Sheet.{row_figures};
 
-use crate::figure::Figure;
+use crate::figure::write_figure;
 use casefile_defs::ROW_FIGURES;
 use cases::Case;
 use std::io;
 use std::io::Write;
+use streams::write_field;
 
 pub fn print_case<W: Write>(to: &mut W, case: &Case) -> io::Result<()> {
     print_header(to, case)?;
@@ -20,9 +21,13 @@ pub fn print_case<W: Write>(to: &mut W, case: &Case) -> io::Result<()> {
 
 fn print_header<W: Write>(to: &mut W, case: &Case) -> io::Result<()> {
     let h = case.header;
-    let mode = h.mode.number();
-    write!(to, "HD {mode} {} {} {}", h.target, h.buses, h.corridors)?;
-    writeln!(to, " {} {} {}", h.generators, h.above, h.requested)
+    write!(to, "HD")?;
+    write_field(to, u64::from(h.mode.number()))?;
+    write_field(to, u64::from(h.target))?;
+    for count in [h.buses, h.corridors, h.generators, h.above, h.requested] {
+        write_field(to, count as u64)?;
+    }
+    writeln!(to)
 }
 
 fn levels(case: &Case) -> usize
@@ -33,7 +38,9 @@ fn levels(case: &Case) -> usize
 
 fn print_levels<W: Write>(to: &mut W, case: &Case) -> io::Result<()> {
     for voltage in &case.tables.ladder[..levels(case)] {
-        writeln!(to, "LV {}", Figure(*voltage))?;
+        write!(to, "LV")?;
+        write_figure(to, *voltage)?;
+        writeln!(to)?;
     }
     Ok(())
 }
@@ -43,9 +50,11 @@ fn print_levels<W: Write>(to: &mut W, case: &Case) -> io::Result<()> {
 fn print_buses<W: Write>(to: &mut W, case: &Case) -> io::Result<()> {
     let t = &case.tables;
     for i in 0..case.header.buses {
-        let reading = Figure(t.reading[i]);
-        let weight = Figure(t.weight[i]);
-        writeln!(to, "BU {} {reading} {weight}", t.tier[i])?;
+        write!(to, "BU")?;
+        write_field(to, u64::from(t.tier[i]))?;
+        write_figure(to, t.reading[i])?;
+        write_figure(to, t.weight[i])?;
+        writeln!(to)?;
     }
     Ok(())
 }
@@ -53,11 +62,13 @@ fn print_buses<W: Write>(to: &mut W, case: &Case) -> io::Result<()> {
 fn print_generators<W: Write>(to: &mut W, case: &Case) -> io::Result<()> {
     let t = &case.tables;
     for i in 0..case.header.generators {
-        let pmin = Figure(t.pmin[i]);
-        let pmax = Figure(t.pmax[i]);
-        let c1 = Figure(t.c1[i]);
-        let c2 = Figure(t.c2[i]);
-        writeln!(to, "GE {} {} {pmin} {pmax} {c1} {c2}", t.bus[i], t.slack[i])?;
+        write!(to, "GE")?;
+        write_field(to, u64::from(t.bus[i]))?;
+        write_field(to, u64::from(t.slack[i]))?;
+        for figure in [t.pmin[i], t.pmax[i], t.c1[i], t.c2[i]] {
+            write_figure(to, figure)?;
+        }
+        writeln!(to)?;
     }
     Ok(())
 }
@@ -66,10 +77,14 @@ fn print_generators<W: Write>(to: &mut W, case: &Case) -> io::Result<()> {
 fn print_corridors<W: Write>(to: &mut W, case: &Case) -> io::Result<()> {
     let t = &case.tables;
     for i in 0..case.header.corridors {
-        let length_km = Figure(t.length_km[i]);
-        let share = Figure(t.share[i]);
-        write!(to, "CO {} {} {}", t.a[i], t.b[i], t.circuits[i])?;
-        writeln!(to, " {length_km} {share} {}", t.cap[i])?;
+        write!(to, "CO")?;
+        for number in [t.a[i], t.b[i], t.circuits[i]] {
+            write_field(to, u64::from(number))?;
+        }
+        write_figure(to, t.length_km[i])?;
+        write_figure(to, t.share[i])?;
+        write_field(to, u64::from(t.cap[i]))?;
+        writeln!(to)?;
     }
     Ok(())
 }
@@ -101,10 +116,10 @@ const BASIS: usize = ROW_FIGURES - 1;
 fn print_line<W: Write>(to: &mut W, row: &[f64]) -> io::Result<()>
     requires { length row.now ≡ row_figures }
 {
-    let r = Figure(row[0]);
-    let x = Figure(row[1]);
-    let b = Figure(row[2]);
-    let rate = Figure(row[3]);
-    let basis = u32::from(row[BASIS] != 0.0);
-    writeln!(to, "LN {r} {x} {b} {rate} {basis}")
+    write!(to, "LN")?;
+    for figure in &row[..BASIS] {
+        write_figure(to, *figure)?;
+    }
+    write_field(to, u64::from(row[BASIS] != 0.0))?;
+    writeln!(to)
 }

@@ -10,6 +10,7 @@ use cases::Reading;
 use listed::print_case;
 use std::io;
 use std::io::Write;
+use streams::write_field;
 
 // One byte more than the largest file, so that a larger one shows.
 const BUFFER: usize = casefile_defs::MOST_BYTES + 1;
@@ -23,5 +24,7 @@ fn main(rt: HostRuntime) -> io::Result<()> {
         Ok(case) => print_case(&mut to, &case)?,
         Err(refusal) => writeln!(to, "RF {refusal}")?,
     }
-    writeln!(to, "LK {looks}")
+    write!(to, "LK")?;
+    write_field(&mut to, looks as u64)?;
+    writeln!(to)
 }

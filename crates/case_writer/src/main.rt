@@ -9,6 +9,7 @@ use casefile_writer::MOST_FILE;
 use file::put_small_network;
 use std::io;
 use std::io::Write;
+use streams::write_field;
 
 // More digits than are told apart: a number of that many is past every place.
 const MOST_DIGITS: usize = 16;
@@ -26,7 +27,12 @@ fn wanted_in(text: &[u8]) -> Option<usize> {
 fn write_network<W: Write>(to: &mut W, place: usize) -> io::Result<()> {
     let mut out = [0; MOST_FILE];
     match put_small_network(&mut out, place) {
-        Err(f) => writeln!(to, "RF {f}"),
+        Err(f) => {
+            write!(to, "RF")?;
+            write_field(to, u64::from(f.number()))?;
+            write_field(to, f.index() as u64)?;
+            writeln!(to)
+        }
         Ok(n) => to.write_all(&out[..n]),
     }
 }

@@ -6,6 +6,7 @@
 use casefile_defs::MOST_BYTES;
 use std::io;
 use std::io::{Read, Write};
+use streams::write_field;
 
 // One byte more than the largest file, so that a larger one shows.
 const MOST_FILE: usize = MOST_BYTES + 1;
@@ -22,7 +23,12 @@ fn convert<R: Read, W: Write>(from: &mut R, to: &mut W, direction: u8) -> io::Re
     };
     match moved {
         Ok(()) => to.write_all(&out),
-        Err(refusal) => writeln!(to, "RF {refusal}"),
+        Err(refusal) => {
+            write!(to, "RF")?;
+            write_field(to, u64::from(refusal.number()))?;
+            write_field(to, refusal.index() as u64)?;
+            writeln!(to)
+        }
     }
 }
 

@@ -17,6 +17,14 @@ mod share;
 mod table;
 mod unit;
 
+// Not by `copy_from_slice`, with which the archive for C would need `memmove` from outside.
+fn copy(from: &[f64], to: &mut [f64])
+    requires { length to.old ≡ length from.now }
+    ensures { to.new ≡ from.now }
+{
+    loops::fill(to, |i| from[i]);
+}
+
 // The dispatch of sound units, or refusal 8.
 #[tactic(auto, using(loops::proofs::Scan::fault_some, loops::proofs::Scan::fault_passed, dispatch_defs::proofs::SharingOut::share_out_answered, dispatch_defs::proofs::SharingOut::share_out_refused, dispatch_defs::proofs::SharingOut::stands_most, dispatch_defs::proofs::SharingOut::stands_least, dispatch_defs::proofs::SharingOut::stands_between), unfolding(dispatch_defs::specs::Dispatch::infinite_cost, dispatch_defs::specs::Dispatch::faulty_cost_at, dispatch_defs::specs::Dispatch::dispatch_at))]
 fn share_out(units: &UnitTable, demand: f64, mw: &mut [f64]) -> Result<(), Refusal>
@@ -24,11 +32,11 @@ fn share_out(units: &UnitTable, demand: f64, mw: &mut [f64]) -> Result<(), Refus
     ensures { outcome result mw.new ≡ shared_out units.now demand mw.old }
 {
     if demand >= sum(units.pmax) {
-        mw.copy_from_slice(units.pmax);
+        copy(units.pmax, mw);
         return Ok(());
     }
     if demand <= sum(units.pmin) {
-        mw.copy_from_slice(units.pmin);
+        copy(units.pmin, mw);
         return Ok(());
     }
     if let Some(i) = units.infinite_cost() {

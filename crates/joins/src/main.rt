@@ -10,6 +10,7 @@ use casefile_writer::MOST_FILE;
 use files::join_files;
 use std::io;
 use std::io::Write;
+use streams::write_field;
 
 // One byte more than the largest file, so that a larger one shows.
 const MOST_SECOND: usize = MOST_BYTES + 1;
@@ -19,7 +20,12 @@ const MOST_SECOND: usize = MOST_BYTES + 1;
 fn write_joined<W: Write>(to: &mut W, first: &[u8], second: &[u8]) -> io::Result<()> {
     let mut out = [0; MOST_FILE];
     match join_files(first, second, &mut out) {
-        Err(f) => writeln!(to, "RF {f}"),
+        Err(f) => {
+            write!(to, "RF")?;
+            write_field(to, u64::from(f.number()))?;
+            write_field(to, f.index() as u64)?;
+            writeln!(to)
+        }
         Ok(n) => to.write_all(&out[..n]),
     }
 }

@@ -4,7 +4,6 @@ ghost use Rattle.listing_defs.specs.Text.{hexadecimal, number, figure, field};
 ghost use Rattle.listing_defs.specs.Lines.{line_of, most_text};
 
 use arrayvec::ArrayVec;
-use itoa::Buffer;
 use listing_defs::Field;
 use loops::{MOST_BUSES, MOST_CORRIDORS, MOST_GENERATORS, MOST_LEVELS};
 use plan_defs::listed_bits;
@@ -26,6 +25,9 @@ const MOST_TEXT: usize = PLAN_ROOM + LINE_ROOM * MOST_LINES;
 
 // The hexadecimal digits of a figure.
 const FIGURE_DIGITS: usize = 16;
+
+// The most digits of a number.
+const NUMBER_DIGITS: usize = 20;
 
 #[derive(Drop)]
 pub struct Text {
@@ -68,9 +70,10 @@ impl Text {
         requires { length self.old + length (number n) ≤ most_text }
         ensures { self.new ≡ self.old ++ number n }
     {
-        let mut buffer = Buffer::new();
+        let mut digits = [0; NUMBER_DIGITS];
+        let size = streams::decimal(n, &mut digits);
         self.put(b" ");
-        self.put(buffer.format(n).as_bytes())
+        self.put(&digits[..size])
     }
 
     // A space and a figure.

@@ -6,7 +6,7 @@ use casefile_defs::MOST_CORRIDORS;
 use mode::PlanMode;
 
 // In the first places of each array, as planning leaves them: a vector each would hold the one count three times, and a fact that they agree.
-#[derive(Drop)]
+#[derive(Clone, Copy)]
 pub struct Draft {
     pub mode: PlanMode,
     pub corridors: usize,

@@ -13,6 +13,7 @@ use file::draft_file;
 use refusal::Refusal;
 use std::io;
 use std::io::{Read, Write};
+use streams::write_field;
 
 // One byte more than the largest file, so that a larger one shows.
 const MOST_FILE: usize = MOST_BYTES + 1;
@@ -37,12 +38,17 @@ fn read_draft<R: Read>(from: &mut R) -> io::Result<Result<Draft, Refusal>> {
 // ---- printing
 // PV target, then CO index circuits for each corridor, or RF number index
 fn print_preview<W: Write>(to: &mut W, draft: &Draft, target: u32) -> io::Result<()> {
-    writeln!(to, "PV {target}")?;
+    write!(to, "PV")?;
+    write_field(to, u64::from(target))?;
+    writeln!(to)?;
     match draft.preview(target) {
         Err(f) => writeln!(to, "RF {f}"),
         Ok(circuits) => {
             for (k, n) in circuits[..draft.corridors].iter().enumerate() {
-                writeln!(to, "CO {k} {n}")?;
+                write!(to, "CO")?;
+                write_field(to, k as u64)?;
+                write_field(to, u64::from(*n))?;
+                writeln!(to)?;
             }
             Ok(())
         }

@@ -8,9 +8,10 @@ mod file;
 use casefile_defs::MOST_BYTES;
 use file::feed_file;
 use season::{begin, corridor_figures, season_figures};
-use season_defs::Season;
+use season_defs::{Ratio, Season};
 use std::io;
 use std::io::{Read, Write};
+use streams::write_field;
 
 // Prints RF place number index of each file that is refused. A proved loop has to end, and nothing says that the input does: no
 // run reaches the last place.
@@ -23,7 +24,9 @@ fn feed_all<R: Read, W: Write>(from: &mut R, to: &mut W) -> io::Result<Season> {
             break;
         }
         if let Err(f) = feed_file(&mut season, &file[..n]) {
-            writeln!(to, "RF {place} {f}")?;
+            write!(to, "RF")?;
+            write_field(to, place)?;
+            writeln!(to, " {f}")?;
         }
         if n < MOST_BYTES {
             break;
@@ -32,25 +35,36 @@ fn feed_all<R: Read, W: Write>(from: &mut R, to: &mut W) -> io::Result<Season> {
     Ok(season)
 }
 
+// A ratio ends its line: over under
+fn print_ratio<W: Write>(to: &mut W, ratio: Ratio) -> io::Result<()> {
+    write_field(to, ratio.over)?;
+    write_field(to, ratio.under)?;
+    writeln!(to)
+}
+
 // CO index least greatest over under
 fn print_corridor<W: Write>(to: &mut W, season: &Season, k: usize) -> io::Result<()> {
     let f = corridor_figures(season, k);
-    writeln!(
-        to,
-        "CO {k} {} {} {} {}",
-        f.least, f.greatest, f.mean.over, f.mean.under
-    )
+    write!(to, "CO")?;
+    write_field(to, k as u64)?;
+    write_field(to, u64::from(f.least))?;
+    write_field(to, u64::from(f.greatest))?;
+    print_ratio(to, f.mean)
 }
 
 // SE plans, a line for each corridor index, RO over under, CV over under
 fn print_season<W: Write>(to: &mut W, season: &Season) -> io::Result<()> {
     let f = season_figures(season);
-    writeln!(to, "SE {}", f.plans)?;
+    write!(to, "SE")?;
+    write_field(to, u64::from(f.plans))?;
+    writeln!(to)?;
     for k in 0..season.corridors {
         print_corridor(to, season, k)?;
     }
-    writeln!(to, "RO {} {}", f.rounds.over, f.rounds.under)?;
-    writeln!(to, "CV {} {}", f.converged.over, f.converged.under)
+    write!(to, "RO")?;
+    print_ratio(to, f.rounds)?;
+    write!(to, "CV")?;
+    print_ratio(to, f.converged)
 }
 
 fn main(rt: HostRuntime) -> io::Result<()> {

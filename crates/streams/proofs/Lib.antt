@@ -1,2 +1,2 @@
 -- A number's text.
-mod Text
+pub mod Text

@@ -1,6 +1,7 @@
 -- What std writes of a number are its digits.
 use Prim.Native.Nat.{ℕ, zero, suc, ◌+◌, ◌-◌, ◌/◌, ◌%◌, ◌^◌, ◌≤◌, ◌<◌}
-use native.Mathlib.Nat.{pow-suc}
+use native.Mathlib.Decide.{dec_le}
+use native.Mathlib.Nat.{pow-suc, pow-le-pow_right}
 use native.Mathlib.Numerals.{sub-one}
 use native.Mathlib.Omega.{arith}
 use mathlib.Core.Path.{◌≡◌, sym, ap, subst, ◌∙◌}
@@ -9,6 +10,7 @@ use lib.ListN.{length, length-append}
 use Rattle.std.specs.Prelude.{Result, Option, Ok, Err, OnOk}
 use Rattle.std.specs.Fmt.{decimal}
 use Rattle.std.specs.Io.KnownBytes.{Appends}
+use Rattle.std.proofs.KnownBytes.{Appends-trans}
 use Rattle.std.proofs.lemmas.Fmt.{decimal_by_steps}
 use Rattle.std.proofs.lemmas.Bool.Decides.{nat_tests}
 use Rattle.streams.specs.Digits.{hex_digit_ascii, last_digits, IsDigitCount}
@@ -52,9 +54,30 @@ decimal_digits = decimal_by_steps IsDigits one more
 pub shown : (n : ℕ) (text : List ℕ) → n < 2 ^ 64 → text ≡ decimal n → IsDigits n text
 shown n text h e = subst (IsDigits n) (sym e) (decimal_digits n h)
 
+-- a number has one count of digits
+fewer : (n j k : ℕ) → IsDigitCount 10 1 n j → IsDigitCount 10 1 n k → k ≤ j
+fewer n j k a b = elim (dec_le k j) [
+  | yes h ↦ h
+  | no h ↦ absurd (let q : j ≤ k - 1 = omega arith in let p : 10 ^ j ≤ 10 ^ (k - 1) = pow-le-pow_right (omega arith) q in omega (arith, p, a.1, b.2 (omega arith)))
+]
+
+-- its digits are what std writes of it
+pub digits_are : (n k : ℕ) → n < 2 ^ 64 → IsDigitCount 10 1 n k → last_digits 10 k n ≡ decimal n
+digits_are n k h d =
+    let e = decimal_digits n h in
+    let same : k ≡ length (decimal n) = omega (arith, fewer n k (length (decimal n)) d e.0, fewer n (length (decimal n)) k e.0 d) in
+    ap (λ (j : ℕ). last_digits 10 j n) same ∙ sym e.1
+
 pub written : {E : Type 0} (r : Result (Unit {0}) E) (old new : Option (List ℕ)) (n : ℕ) → n < 2 ^ 64 → OnOk r (Appends old new (decimal n))
     → OnOk r ((k : ℕ) × IsDigitCount 10 1 n k × Appends old new (last_digits 10 k n))
 written (Err e) old new n h w = w
 written (Ok x) old new n h w =
     let d = decimal_digits n h in
     (length (decimal n), d.0, subst (λ (ds : List ℕ). Appends old new ds) d.1 w)
+
+-- a number written behind a space is one text with it
+pub behind_space : {E : Type 0} (r : Result (Unit {0}) E) (old mid new : Option (List ℕ)) (n : ℕ) → Appends old mid (32 ∷ [])
+    → OnOk r ((k : ℕ) × IsDigitCount 10 1 n k × Appends mid new (last_digits 10 k n))
+    → OnOk r ((k : ℕ) × IsDigitCount 10 1 n k × Appends old new (32 ∷ last_digits 10 k n))
+behind_space (Err e) old mid new n s w = w
+behind_space (Ok x) old mid new n s (k, d, a) = (k, d, Appends-trans old mid new (32 ∷ []) (last_digits 10 k n) s a)

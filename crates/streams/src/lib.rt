@@ -7,7 +7,7 @@ ghost use Rattle.std.specs.Prelude.{◌<◌, length, take, IfOk};
 ghost use Rattle.std.specs.Io.{ReadsAtMost};
 ghost use Rattle.std.specs.Io.KnownBytes.{Consumes, IsAtEnd};
 
-pub use number::{decimal, write_decimal};
+pub use number::{decimal, write_decimal, write_field};
 use std::io;
 use std::io::Read;
 

@@ -1,5 +1,5 @@
 // A number as text: its decimal digits in ASCII, with no zero in front.
-ghost use Rattle.std.specs.Prelude.{◌≡◌, ℕ, take, drop, OnOk};
+ghost use Rattle.std.specs.Prelude.{◌≡◌, ℕ, ◌∷◌, take, drop, OnOk};
 ghost use Rattle.std.specs.Io.KnownBytes.{Appends};
 ghost use Rattle.streams.specs.Counts.{IsPrefixLen};
 ghost use Rattle.streams.specs.Digits.{last_digits, IsDigitCount};
@@ -26,4 +26,13 @@ pub fn write_decimal<W: Write>(to: &mut W, n: u64) -> io::Result<()>
     ensures { OnOk result ((k : ℕ) × IsDigitCount 10 1 n k × Appends (W.contents to.old) (W.contents to.new) (last_digits 10 k n)) }
 {
     write!(to, "{n}")
+}
+
+// Writes a space and n's decimal digits: a field of a line that a program prints.
+#[tactic(auto, using(crate::proofs::Text::behind_space))]
+pub fn write_field<W: Write>(to: &mut W, n: u64) -> io::Result<()>
+    ensures { OnOk result ((k : ℕ) × IsDigitCount 10 1 n k × Appends (W.contents to.old) (W.contents to.new) (32 ∷ last_digits 10 k n)) }
+{
+    to.write_all(b" ")?;
+    write_decimal(to, n)
 }

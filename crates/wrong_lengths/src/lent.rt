@@ -26,14 +26,6 @@ pub struct Wrong {
     pub off: Off,
 }
 
-impl fmt::Display for Wrong {
-    fn fmt<W: fmt::Write>(&self, f: &mut fmt::Formatter<W>) -> fmt::Result {
-        let slice = self.slice;
-        let off = self.off;
-        write!(f, "slice {slice} {off}")
-    }
-}
-
 // How much of an array of so many places the slice at `place` of the call is.
 fn lent_length(places: usize, place: usize, wrong: Option<Wrong>) -> usize
     requires { 2 ≤ places }

@@ -1,8 +1,9 @@
 // What is wrong with a call, what came of it, and a line for each.
 use crate::lent::Wrong;
 use refusal::Refusal;
+use std::io;
 use std::io::Write;
-use std::{fmt, io};
+use streams::write_field;
 
 // What came of a call, by what the operation answers: one of two kinds, and never nothing.
 #[derive(Clone, Copy)]
@@ -25,18 +26,19 @@ impl Outcome {
     }
 }
 
-impl fmt::Display for Outcome {
-    fn fmt<W: fmt::Write>(&self, f: &mut fmt::Formatter<W>) -> fmt::Result {
-        let (refusal, kept) = match *self {
-            Outcome::Figures(count) => return write!(f, "{count} figures"),
-            Outcome::Answer { refusal, kept } => (refusal, kept),
-        };
-        match refusal {
-            None => write!(f, "OK")?,
-            Some(refusal) => write!(f, "RF {refusal}")?,
+fn report_outcome<W: Write>(to: &mut W, outcome: Outcome) -> io::Result<()> {
+    let (refusal, kept) = match outcome {
+        Outcome::Figures(count) => {
+            write_field(to, count as u64)?;
+            return writeln!(to, " figures");
         }
-        write!(f, ", {}", if kept { "kept" } else { "changed" })
+        Outcome::Answer { refusal, kept } => (refusal, kept),
+    };
+    match refusal {
+        None => write!(to, " OK")?,
+        Some(refusal) => write!(to, " RF {refusal}")?,
     }
+    writeln!(to, ", {}", if kept { "kept" } else { "changed" })
 }
 
 // What a call was, what was wrong with it and what came of it.
@@ -47,8 +49,11 @@ pub fn report<W: Write>(
     outcome: Outcome,
 ) -> io::Result<()> {
     write!(to, "{what}")?;
-    if let Some(wrong) = wrong {
-        write!(to, ", {wrong}")?;
+    if let Some(Wrong { slice, off }) = wrong {
+        write!(to, ", slice")?;
+        write_field(to, slice as u64)?;
+        write!(to, " {off}")?;
     }
-    writeln!(to, ": {outcome}")
+    write!(to, ":")?;
+    report_outcome(to, outcome)
 }

@@ -1,5 +1,6 @@
 use Rattle.std.proofs.Common.{[], ◌∷◌, ap, ◌∙◌, List, ℕ}
 use native.Mathlib.Omega.{arith}
+use Rattle.streams.proofs.Text.{digits_are}
 use Rattle.listing.proofs.Numbers.{number_text}
 use Rattle.listing.proofs.Texts.{both_put, first_room, second_room}
 use Rattle.listing.proofs.text.Text.put_number.Goals as goal
@@ -9,8 +10,10 @@ put-requires c = first_room c.args.self.now (32 ∷ []) _ (number_text c.args.n 
 
 pub put-requires-2 : goal.put-requires-2
 put-requires-2 c =
-    second_room c.args.self.now (32 ∷ []) c.as_bytes.result.now c.put.ensures (ap (λ (l : List ℕ). 32 ∷ l) (c.as_bytes.ensures.value ∙ c.format.ensures.text) ∙ number_text c.args.n (omega arith)) c.requires
+    let d = c.decimal-size in
+    second_room c.args.self.now (32 ∷ []) _ c.put.ensures (ap (λ (l : List ℕ). 32 ∷ l) (d.ensures.digits ∙ digits_are c.args.n d.result (omega arith) d.ensures.len) ∙ number_text c.args.n (omega arith)) c.requires
 
 pub returns : goal.returns
 returns c =
-    both_put c.args.self.now (32 ∷ []) c.as_bytes.result.now c.put.ensures c.put-2.ensures (ap (λ (l : List ℕ). 32 ∷ l) (c.as_bytes.ensures.value ∙ c.format.ensures.text) ∙ number_text c.args.n (omega arith))
+    let d = c.decimal-size in
+    both_put c.args.self.now (32 ∷ []) _ c.put.ensures c.put-2.ensures (ap (λ (l : List ℕ). 32 ∷ l) (d.ensures.digits ∙ digits_are c.args.n d.result (omega arith) d.ensures.len) ∙ number_text c.args.n (omega arith))
